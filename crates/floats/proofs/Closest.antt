@@ -1,0 +1,82 @@
+-- The nearest whole number to a fraction, from two strict bounds; and the fraction that stands for a square root, from bounds on the root. Assumes nothing.
+use mathlib.Core.Path.{_≡_, refl, sym, ap, _∙_, subst}
+use Prim.Native.Nat.{ℕ, zero, suc, _+_, _-_, _*_, _/_, _%_, _^_, _≤_, _<_, compare, Ordering, Ordering·lt, Ordering·eq, Ordering·gt}
+use native.Mathlib.Nat.{le-refl, le-trans, le-of-eq, le-of-lt, le-antisymm, le-of-suc-le-suc, lt-irrefl, suc-mul, add-mul, one-mul, mod-lt, div-add-mod', lt-of-mul-lt-mul-right}
+use native.Mathlib.Omega.{arith}
+use mathlib.Core.Bool.{Bool, true, false, not, cond}
+use lib.Dec.{T, isLe, isEq, eqb, leb→le, nleb→lt, eqb→eq, eqb-refl}
+use lib.Arith.{lt-of-le-ne}
+use lib.Ieee.{nearest}
+use lib.Ieee.Nearest.{closest}
+use Rattle.floats.specs.Root.{wholeRoot}
+use Rattle.floats.proofs.Whole.{whole-low, whole-high, sq-le, sq-lt}
+
+-- ---- what `compare` says
+abbrev pub Cmp : Ordering → ℕ → ℕ → Type 0
+Cmp Ordering·lt a b = a < b
+Cmp Ordering·eq a b = a ≡ b
+Cmp Ordering·gt a b = b < a
+
+pub cmp : (a b : ℕ) → Cmp (compare a b) a b
+cmp a b = go (compare a b) (leb→le a b) (nleb→lt a b) (eqb→eq a b) (λ (e : a ≡ b). subst (λ (x : ℕ). T (eqb a x)) e (eqb-refl a))
+  where
+    go : (o : Ordering) → (T (isLe o) → a ≤ b) → (T (not (isLe o)) → b < a) → (T (isEq o) → a ≡ b) → (a ≡ b → T (isEq o)) → Cmp o a b
+    go Ordering·lt h k e n = lt-of-le-ne (h tt) n
+    go Ordering·eq h k e n = e tt
+    go Ordering·gt h k e n = k tt
+
+-- ---- products with B, taken apart
+next : (q w B : ℕ) → q * B < w * B + B → q ≤ w
+next q w B h = le-of-suc-le-suc (lt-of-mul-lt-mul-right B (subst (λ (x : ℕ). q * B < x) (sym (add-mul 1 w B ∙ ap (λ (x : ℕ). x + w * B) (one-mul B) ∙ swap B (w * B)) ∙ ap (λ (x : ℕ). x * B) (one-more w)) h))
+  where
+    swap : (a b : ℕ) → a + b ≡ b + a
+    swap a b = omega arith
+
+    one-more : (w : ℕ) → 1 + w ≡ suc w
+    one-more w = omega arith
+
+-- with A = w * B + r, each product with B an atom
+at : (o : Ordering) (w q B A r wB qB : ℕ) → Cmp o (r * 2) B → wB + r ≡ A → r < B → 2 * qB < 2 * A + B → 2 * A < 2 * qB + B
+    → (qB < wB + B → q ≤ w) → (wB < qB + B → w ≤ q) → (wB < qB → suc w ≤ q) → (qB < wB + B + B → q ≤ suc w) → nearest w o ≡ q
+at Ordering·lt w q B A r wB qB c e l lo hi a b f g = le-antisymm (b (omega arith)) (a (omega arith))
+at Ordering·eq w q B A r wB qB c e l lo hi a b f g = absurd (lt-irrefl w (le-trans (f (omega arith)) (a (omega arith))))
+at Ordering·gt w q B A r wB qB c e l lo hi a b f g = le-antisymm (f (omega arith)) (g (omega arith))
+
+-- (q - 1/2) * B < A < (q + 1/2) * B
+pub closest-is : (A B q : ℕ) → 0 < B → 2 * (q * B) < 2 * A + B → 2 * A < 2 * (q * B) + B → closest A B ≡ q
+closest-is A B q p lo hi =
+    let w = A / B in
+    at (compare (A % B * 2) B) w q B A (A % B) (w * B) (q * B) (cmp (A % B * 2) B) (div-add-mod' A B) (mod-lt A p) lo hi
+    (next q w B)
+    (next w q B)
+    (λ h. lt-of-mul-lt-mul-right B h)
+    (λ h. next q (suc w) B (subst (λ (x : ℕ). q * B < x + B) (sym (suc-mul w B)) h))
+
+-- ---- the numerator that `rootOf` rounds, over 2: it is √n, or the middle of the two whole numbers that √n lies between
+abbrev pub twice : ℕ → ℕ
+twice n = 2 * wholeRoot n + cond (eqb (wholeRoot n * wholeRoot n) n) 0 1
+
+-- it is above every c below √n, and below every d above √n
+pub twice-above : (n c : ℕ) → c * c < n → 2 * c < twice n
+twice-above n c h = go (eqb (wholeRoot n * wholeRoot n) n) (eqb→eq (wholeRoot n * wholeRoot n) n)
+  where
+    go : (b : Bool) → (T b → wholeRoot n * wholeRoot n ≡ n) → 2 * c < 2 * wholeRoot n + cond b 0 1
+    go true e =
+        let l : c < wholeRoot n = sq-lt c (wholeRoot n) (c * c) (le-refl (c * c)) (subst (λ (x : ℕ). c * c < x) (sym (e tt)) h) in
+        omega arith
+    go false e =
+        let l : c ≤ wholeRoot n = sq-le c (wholeRoot n) n (le-of-lt h) (whole-high n) in
+        omega arith
+
+pub twice-below : (n d : ℕ) → n < d * d → twice n < 2 * d
+twice-below n d h = go (eqb (wholeRoot n * wholeRoot n) n)
+  where
+    go : (b : Bool) → 2 * wholeRoot n + cond b 0 1 < 2 * d
+    go true = let l : wholeRoot n < d = sq-lt (wholeRoot n) d n (whole-low n) h in omega arith
+    go false = let l : wholeRoot n < d = sq-lt (wholeRoot n) d n (whole-low n) h in omega arith
+
+-- and at least every c up to √n
+pub twice-reaches : (n c : ℕ) → c * c ≤ n → 2 * c ≤ twice n
+twice-reaches n c h =
+    let l : c ≤ wholeRoot n = sq-le c (wholeRoot n) n h (whole-high n) in
+    omega arith

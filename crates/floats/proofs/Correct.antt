@@ -1,0 +1,249 @@
+-- `sqrtOf y` is the binary64 nearest to √y, for y finite and above zero: no other value z above zero is nearer. Said without real numbers:
+-- a value x that fits is `steps x` of the smallest value, 2 ^ -1074, and √y is √(area y) of half of that. The middle of r = `sqrtOf y` and z is `steps r + steps z` halves.
+-- Where z is above r, √y is at most that middle, and where z is below r, at least. Assumes nothing.
+use mathlib.Core.Path.{_≡_, refl, sym, ap, _∙_, subst}
+use mathlib.Core.Logic.{_⊎_, inl, inr}
+use Prim.Native.Nat.{ℕ, zero, suc, _+_, _-_, _*_, _/_, _%_, _^_, _≤_, _<_, compare, Ordering, Ordering·lt, Ordering·eq, Ordering·gt}
+use native.Mathlib.Nat.{le-refl, le-trans, le-of-eq, le-of-lt, lt-of-lt-of-le, lt-of-le-of-lt, lt-irrefl, eq-or-lt-of-le, le-antisymm, mul-one, one-mul, mul-comm, mul-assoc, mul-left-comm, mul-right-comm, mul-pos, mul-le-mul-left, mul-le-mul-right, mul-lt-mul-of-pos-right, le-of-mul-le-mul-right, lt-of-mul-lt-mul-right, le-div-iff-mul-le, div-mul-le-self, mul-div-cancel, eq-of-mul-eq-mul-right, div-add-mod', mod-lt, add-mul, suc-mul, lt-of-not-le, not-le-of-lt, le-of-suc-le-suc}
+use native.Mathlib.Omega.{arith}
+use native.Mathlib.Decide.{decLe}
+use mathlib.Core.Bool.{Bool, true, false, not, cond}
+use lib.Dec.{T, lit≤}
+use lib.Pow.{pow-add, pow-pos, pow-mono, pow-lt, shl-lt}
+use lib.Ieee.{Float, binary64, size, round, nearest, fits}
+use lib.Ieee.Digits.{size-lt, size-reaches}
+use lib.Ieee.Fits.{round-fits, nearest-le}
+use lib.Ieee.Exact.{HasValue}
+use lib.Ieee.Nearest.{closest, nearest-ge}
+use lib.Ieee.Scale.{grid, round-val, round-under}
+use lib.Ieee.Positive.{num, den, den-pos, positive, positive-finite, value→cross}
+use Rattle.floats.specs.Root.{sqrtOf}
+use Rattle.floats.proofs.Closest.{Cmp, cmp, twice, twice-above, twice-below, twice-reaches}
+use Rattle.floats.proofs.Result.{size-gt}
+use Rattle.floats.proofs.Laws.{area, sqrt-is, OnGrid, on-grid, area-low, sqrt-positive}
+
+abbrev pub steps : Float → ℕ
+steps x = num x * 2 ^ 1074 / den x
+
+steps-is : (x : Float) (g : OnGrid x) → steps x ≡ g .m * 2 ^ g .j
+steps-is x g = ap (λ (z : ℕ). z / den x) (g .is) ∙ mul-div-cancel (g .m * 2 ^ g .j) (den-pos x)
+
+-- ---- the nearest whole number is within a half
+near-at : (o : Ordering) (w B A r wB cB : ℕ) → Cmp o (r * 2) B → wB + r ≡ A → r < B → (nearest w o ≡ w → cB ≡ wB) → (nearest w o ≡ suc w → cB ≡ wB + B) → (2 * cB ≤ 2 * A + B) × (2 * A ≤ 2 * cB + B)
+near-at Ordering·lt w B A r wB cB c e l f g = let k : cB ≡ wB = f refl in (omega arith, omega arith)
+near-at Ordering·eq w B A r wB cB c e l f g = go (parity w)
+  where
+    parity : (w : ℕ) → (w + w % 2 ≡ w) ⊎ (w + w % 2 ≡ suc w)
+    parity w = split (w % 2) (lt-two w)
+      where
+        lt-two : (w : ℕ) → w % 2 < 2
+        lt-two w = omega arith
+
+        split : (x : ℕ) → x < 2 → (w + x ≡ w) ⊎ (w + x ≡ suc w)
+        split zero h = inl (plain w)
+          where
+            plain : (w : ℕ) → w + 0 ≡ w
+            plain w = omega arith
+        split (suc x) h = inr (one w x h)
+          where
+            one : (w x : ℕ) → suc x < 2 → w + suc x ≡ suc w
+            one w x h = omega arith
+
+    go : (w + w % 2 ≡ w) ⊎ (w + w % 2 ≡ suc w) → (2 * cB ≤ 2 * A + B) × (2 * A ≤ 2 * cB + B)
+    go (inl p) = let k : cB ≡ wB = f p in (omega arith, omega arith)
+    go (inr p) = let k : cB ≡ wB + B = g p in (omega arith, omega arith)
+near-at Ordering·gt w B A r wB cB c e l f g = let k : cB ≡ wB + B = g refl in (omega arith, omega arith)
+
+closest-near : (A B : ℕ) → 0 < B → (2 * (closest A B * B) ≤ 2 * A + B) × (2 * A ≤ 2 * (closest A B * B) + B)
+closest-near A B p =
+    let w = A / B in
+    near-at (compare (A % B * 2) B) w B A (A % B) (w * B) (closest A B * B) (cmp (A % B * 2) B) (div-add-mod' A B) (mod-lt A p)
+    (λ e. ap (λ (z : ℕ). z * B) e)
+    (λ e. ap (λ (z : ℕ). z * B) e ∙ suc-mul w B)
+
+-- ---- the result as q * 2 ^ i steps
+abbrev drops : ℕ → ℕ
+drops a = size (a * 2 ^ 1074 / 2 ^ 1076) - 53
+
+abbrev keeps : ℕ → ℕ
+keeps a = closest (a * 2 ^ 1074) (2 ^ 1076 * 2 ^ drops a)
+
+-- with L for 2 ^ 1074, and c for the product of q and h = 2 ^ i
+lean : (a q h L : ℕ) → 0 < L → 2 * (q * (4 * L * h)) ≤ 2 * (a * L) + 4 * L * h → 4 * (q * h) ≤ a + 2 * h
+lean a q h L p k =
+    le-of-mul-le-mul-right (scale (a * L) (h * L) (q * h * L) (4 * (q * h) * L) ((a + 2 * h) * L) (mul-assoc 4 (q * h) L) (add-mul a (2 * h) L ∙ ap (λ (z : ℕ). a * L + z) (mul-assoc 2 h L))
+    (subst (λ (z : ℕ). 2 * z ≤ 2 * (a * L) + 4 * (h * L)) e1 (subst (λ (z : ℕ). 2 * (q * (4 * L * h)) ≤ 2 * (a * L) + z) e4 k))) p
+  where
+    e1 : q * (4 * L * h) ≡ 4 * (q * h * L)
+    e1 = simp (mul-assoc, mul-comm, mul-left-comm)
+
+    e4 : 4 * L * h ≡ 4 * (h * L)
+    e4 = simp (mul-assoc, mul-comm, mul-left-comm)
+
+    scale : (aL hL qhL l r : ℕ) → l ≡ 4 * qhL → r ≡ aL + 2 * hL → 2 * (4 * qhL) ≤ 2 * aL + 4 * hL → l ≤ r
+    scale aL hL qhL l r e f k = omega arith
+
+reach : (a q h L : ℕ) → 0 < L → 2 * (a * L) ≤ 2 * (q * (4 * L * h)) + 4 * L * h → a ≤ 4 * (q * h) + 2 * h
+reach a q h L p k =
+    le-of-mul-le-mul-right (scale (a * L) (h * L) (q * h * L) ((4 * (q * h) + 2 * h) * L) (add-mul (4 * (q * h)) (2 * h) L ∙ ap (λ (z : ℕ). z + 2 * h * L) (mul-assoc 4 (q * h) L) ∙ ap (λ (z : ℕ). 4 * (q * h * L) + z) (mul-assoc 2 h L))
+    (subst (λ (z : ℕ). 2 * (a * L) ≤ 2 * z + 4 * (h * L)) e1 (subst (λ (z : ℕ). 2 * (a * L) ≤ 2 * (q * (4 * L * h)) + z) e4 k))) p
+  where
+    e1 : q * (4 * L * h) ≡ 4 * (q * h * L)
+    e1 = simp (mul-assoc, mul-comm, mul-left-comm)
+
+    e4 : 4 * L * h ≡ 4 * (h * L)
+    e4 = simp (mul-assoc, mul-comm, mul-left-comm)
+
+    scale : (aL hL qhL r : ℕ) → r ≡ 4 * qhL + 2 * hL → 2 * aL ≤ 2 * (4 * qhL) + 4 * hL → aL ≤ r
+    scale aL hL qhL r f k = omega arith
+
+-- what is known of the root of n: G steps, a multiple of 2 ^ i, of 53 digits, and within half of 2 ^ i
+record Rounded (n G : ℕ) : Type 0 where
+  i : ℕ
+  q : ℕ
+  is : G ≡ q * 2 ^ i
+  normal : 2 ^ 52 * 2 ^ i ≤ G
+  first : 4 * (2 ^ 52 * 2 ^ i) ≤ twice n
+  under : 4 * G ≤ twice n + 2 * 2 ^ i
+  over : twice n ≤ 4 * G + 2 * 2 ^ i
+
+-- the digits of a / 4
+first-of : (a i : ℕ) → suc (52 + i) ≡ size (a * 2 ^ 1074 / 2 ^ 1076) → 4 * (2 ^ 52 * 2 ^ i) ≤ a
+first-of a i e =
+    le-of-mul-le-mul-right
+    (le-trans (le-of-eq (regroup (2 ^ 52) (2 ^ i) (2 ^ 1074)))
+    (le-trans (mul-le-mul-right (2 ^ 1076) (subst (λ (z : ℕ). z ≤ a * 2 ^ 1074 / 2 ^ 1076) (pow-add 2 52 i) (size-reaches (a * 2 ^ 1074 / 2 ^ 1076) (52 + i) (le-of-eq e)))) (div-mul-le-self (a * 2 ^ 1074) (2 ^ 1076))))
+    (pow-pos 1074)
+  where
+    regroup : (x y L : ℕ) → 4 * (x * y) * L ≡ x * y * (4 * L)
+    regroup x y L = simp (mul-assoc, mul-comm, mul-left-comm)
+
+rounded : (x : Float) → T (positive x) → T (fits binary64 x) → Rounded (area x) (steps (sqrtOf x))
+rounded x p f =
+    let n = area x in
+    let a = twice n in
+    let R = round binary64 false a (2 ^ 1076) in
+    let A = a * 2 ^ 1074 in
+    let i = drops a in
+    let q = keeps a in
+    let R-pos : T (positive R) = subst (λ (z : Float). T (positive z)) (sqrt-is x p) (sqrt-positive x p f) in
+    let v : HasValue R false (q * 2 ^ i) (2 ^ 1074) = round-val binary64 a (2 ^ 1076) (round-under binary64 a (2 ^ 1076) (positive-finite R R-pos)) in
+    let G-is : steps (sqrtOf x) ≡ q * 2 ^ i =
+    ap steps (sqrt-is x p) ∙ ap (λ (z : ℕ). z / den R) (value→cross R (q * 2 ^ i) (2 ^ 1074) v) ∙ mul-div-cancel (q * 2 ^ i) (den-pos R) in
+    let big : 52 < size (A / 2 ^ 1076) = size-gt (A / 2 ^ 1076) 52 (le-div-iff-mul-le (pow-pos 1076) .1 (enough a (twice-reaches n (2 ^ 538) (area-low x (on-grid x p f))))) in
+    let sz : suc (52 + i) ≡ size (A / 2 ^ 1076) = cut (size (A / 2 ^ 1076)) big in
+    let fd : 4 * (2 ^ 52 * 2 ^ i) ≤ a = first-of a i sz in
+    let c = closest-near A (2 ^ 1076 * 2 ^ i) (mul-pos (pow-pos 1076) (pow-pos i)) in
+    let un : 4 * (q * 2 ^ i) ≤ a + 2 * 2 ^ i = lean a q (2 ^ i) (2 ^ 1074) (pow-pos 1074) (c .0) in
+    let ov : a ≤ 4 * (q * 2 ^ i) + 2 * 2 ^ i = reach a q (2 ^ i) (2 ^ 1074) (pow-pos 1074) (c .1) in
+    record {
+      i = i;
+      q = q;
+      is = G-is;
+      normal = subst (λ (z : ℕ). 2 ^ 52 * 2 ^ i ≤ z) (sym G-is) (mul-le-mul-right (2 ^ i) (half-up (2 ^ i) (pow-pos i) q (le-trans fd ov)));
+      first = fd;
+      under = subst (λ (z : ℕ). 4 * z ≤ a + 2 * 2 ^ i) (sym G-is) un;
+      over = subst (λ (z : ℕ). a ≤ 4 * z + 2 * 2 ^ i) (sym G-is) ov;
+    }
+  where
+    enough : (a : ℕ) → 2 * 2 ^ 538 ≤ a → 2 ^ 52 * 2 ^ 1076 ≤ a * 2 ^ 1074
+    enough a h = le-trans (lit≤ tt) (mul-le-mul-right (2 ^ 1074) h)
+
+    cut : (z : ℕ) → 52 < z → suc (52 + (z - 53)) ≡ z
+    cut z h = omega arith
+
+    -- q + 1/2 is at least 2 ^ 52
+    half-up : (h : ℕ) → 0 < h → (q : ℕ) → 4 * (2 ^ 52 * h) ≤ 4 * (q * h) + 2 * h → 2 ^ 52 ≤ q
+    half-up h p q k = le-of-suc-le-suc (lt-of-mul-lt-mul-right h (subst (λ (z : ℕ). 2 ^ 52 * h < z) (sym (suc-mul q h)) (less (2 ^ 52 * h) (q * h) h p k)))
+      where
+        less : (x y h : ℕ) → 0 < h → 4 * x ≤ 4 * y + 2 * h → x < y + h
+        less x y h p k = omega arith
+
+-- ---- from 2 ^ 52 * 2 ^ i steps on, every value is a multiple of 2 ^ i steps
+multiple : (z : Float) (g : OnGrid z) (i : ℕ) → 2 ^ 52 * 2 ^ i ≤ steps z → (t : ℕ) × (steps z ≡ t * 2 ^ i)
+multiple z g i h =
+    let e = steps-is z g in
+    let l : i ≤ g .j = le-of-suc-le-suc (lt-of-not-le (λ (k : suc (g .j) ≤ i). clash k (subst (λ (x : ℕ). 2 ^ 52 * 2 ^ i ≤ x) e h))) in
+    (g .m * 2 ^ (g .j - i), e ∙ ap (λ (x : ℕ). g .m * 2 ^ x) (sym (back i (g .j) l)) ∙ ap (λ (x : ℕ). g .m * x) (pow-add 2 (g .j - i) i) ∙ sym (mul-assoc (g .m) (2 ^ (g .j - i)) (2 ^ i)))
+  where
+    back : (i j : ℕ) → i ≤ j → j - i + i ≡ j
+    back i j h = omega arith
+
+    up : (i j : ℕ) → suc j ≤ i → 53 + j ≤ 52 + i
+    up i j h = omega arith
+
+    clash : suc (g .j) ≤ i → 2 ^ 52 * 2 ^ i ≤ g .m * 2 ^ g .j → ⊥
+    clash k b = lt-irrefl (2 ^ (53 + g .j)) (le-trans (lt-suc (2 ^ (53 + g .j)) (2 ^ (52 + i)) (pow-mono (up i (g .j) k))) (le-trans (suc-le (2 ^ (52 + i)) (g .m * 2 ^ g .j) (subst (λ (x : ℕ). x ≤ g .m * 2 ^ g .j) (sym (pow-add 2 52 i)) b)) (shl-lt 53 (g .j) (g .small))))
+      where
+        lt-suc : (a b : ℕ) → a ≤ b → suc a ≤ suc b
+        lt-suc a b h = omega arith
+
+        suc-le : (a b : ℕ) → a ≤ b → suc a ≤ suc b
+        suc-le a b h = omega arith
+
+-- two multiples of h that differ, differ by h
+apart : (s t h : ℕ) → s * h < t * h → s * h + h ≤ t * h
+apart s t h k = le-trans (le-of-eq (sym (suc-mul s h))) (mul-le-mul-right h (lt-of-mul-lt-mul-right h k))
+
+-- ---- from `twice n` to n
+at-most : (n c : ℕ) → twice n ≤ 2 * c → n ≤ c * c
+at-most n c h = le-of-suc-le-suc (lt-of-not-le (λ (k : suc (c * c) ≤ n). not-le-of-lt (twice-above n c k) h))
+
+at-least : (n c : ℕ) → 2 * c ≤ twice n → c * c ≤ n
+at-least n c h = le-of-suc-le-suc (lt-of-not-le (λ (k : suc n ≤ c * c). not-le-of-lt (twice-below n c k) h))
+
+pub nearest-above : (y z : Float) → T (positive y) → T (fits binary64 y) → T (positive z) → T (fits binary64 z)
+    → steps (sqrtOf y) < steps z → area y ≤ (steps (sqrtOf y) + steps z) * (steps (sqrtOf y) + steps z)
+nearest-above y z p f q k h =
+    let G = steps (sqrtOf y) in
+    let Z = steps z in
+    let r = rounded y p f in
+    let i = r .i in
+    let t = multiple z (on-grid z q k) i (le-trans (r .normal) (le-of-lt h)) in
+    let gap : G + 2 ^ i ≤ Z =
+    subst (λ (x : ℕ). x + 2 ^ i ≤ Z) (sym (r .is)) (subst (λ (x : ℕ). r .q * 2 ^ i + 2 ^ i ≤ x) (sym (t .1)) (apart (r .q) (t .0) (2 ^ i) (subst (λ (x : ℕ). r .q * 2 ^ i < x) (t .1) (subst (λ (x : ℕ). x < Z) (r .is) h)))) in
+    at-most (area y) (G + Z) (le-trans (r .over) (wide G Z (2 ^ i) gap))
+  where
+    wide : (G Z h : ℕ) → G + h ≤ Z → 4 * G + 2 * h ≤ 2 * (G + Z)
+    wide G Z h k = omega arith
+
+pub nearest-below : (y z : Float) → T (positive y) → T (fits binary64 y) → T (positive z) → T (fits binary64 z)
+    → steps z < steps (sqrtOf y) → (steps (sqrtOf y) + steps z) * (steps (sqrtOf y) + steps z) ≤ area y
+nearest-below y z p f q k h = at-least (area y) (G + Z) (go (decLe F Z))
+  where
+    G : ℕ
+    G = steps (sqrtOf y)
+
+    Z : ℕ
+    Z = steps z
+
+    r : Rounded (area y) G
+    r = rounded y p f
+
+    F : ℕ
+    F = 2 ^ 52 * 2 ^ r .i
+
+    narrow : (G Z h a : ℕ) → Z + h ≤ G → 4 * G ≤ a + 2 * h → 2 * (G + Z) ≤ a
+    narrow G Z h a k l = omega arith
+
+    under-first : (F G Z a : ℕ) → Z < F → F ≡ G → 4 * F ≤ a → 2 * (G + Z) ≤ a
+    under-first F G Z a k e l = omega arith
+
+    far : (F G Z h : ℕ) → Z < F → F + h ≤ G → Z + h ≤ G
+    far F G Z h k l = omega arith
+
+    low : Z < F → 2 * (G + Z) ≤ twice (area y)
+    low l = which (eq-or-lt-of-le (r .normal))
+      where
+        which : (F ≡ G) ⊎ (F < G) → 2 * (G + Z) ≤ twice (area y)
+        which (inl e) = under-first F G Z (twice (area y)) l e (r .first)
+        which (inr g) =
+            narrow G Z (2 ^ r .i) (twice (area y)) (far F G Z (2 ^ r .i) l (subst (λ (x : ℕ). F + 2 ^ r .i ≤ x) (sym (r .is)) (apart (2 ^ 52) (r .q) (2 ^ r .i) (subst (λ (x : ℕ). F < x) (r .is) g)))) (r .under)
+
+    go : Dec (F ≤ Z) → 2 * (G + Z) ≤ twice (area y)
+    go (yes l) =
+        let t = multiple z (on-grid z q k) (r .i) l in
+        narrow G Z (2 ^ r .i) (twice (area y))
+        (subst (λ (x : ℕ). x + 2 ^ r .i ≤ G) (sym (t .1)) (subst (λ (x : ℕ). t .0 * 2 ^ r .i + 2 ^ r .i ≤ x) (sym (r .is)) (apart (t .0) (r .q) (2 ^ r .i) (subst (λ (x : ℕ). t .0 * 2 ^ r .i < x) (r .is) (subst (λ (x : ℕ). x < G) (t .1) h)))))
+        (r .under)
+    go (no l) = low (lt-of-not-le l)

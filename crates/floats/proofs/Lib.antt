@@ -1,0 +1,13 @@
+pub mod Choice
+pub mod Same
+pub mod Cleared
+pub mod Values
+pub mod Whole
+pub mod Closest
+pub mod Result
+pub mod Digits
+pub mod Halves
+pub mod Reading
+pub mod Even
+pub mod Laws
+pub mod Correct
