@@ -11,3 +11,8 @@ pub mod Reading
 pub mod Even
 pub mod Laws
 pub mod Correct
+pub mod Fit
+pub mod Order
+pub mod Monotone
+pub mod RootOrder
+pub mod Signs
