@@ -1,0 +1,4 @@
+pub mod Tables
+pub mod Walk
+pub mod Turned
+pub mod Samples

@@ -1,0 +1,88 @@
+-- atan, tan, the angle of a point, and bulge to sweep and back (01 §3, its last two lines). Expressions are worked left to right as they stand. Definitions only.
+use mathlib.Core.List.{List, [], _∷_}
+use lib.Ieee.{Float, neg, lt, le, eq}
+use Rattle.floats.specs.Binary64.{_⊕_, _⊖_, _⊗_, _⊘_, zero, one, four, eight}
+use Rattle.floats.specs.Choice.{pick, _and_}
+use Rattle.floats.specs.Size.{absOf}
+use Rattle.floats.specs.Root.{sqrtOf}
+use Rattle.vectors.specs.declared.Vector2.{Vector2}
+use Rattle.vectors.specs.Plane.{_⊟_}
+use Rattle.angles.specs.Tables.{pi, halfPi, twoPi, atanTable, sinTable, cosTable}
+
+-- Horner's rule: the value so far, times x, plus the next coefficient
+unfoldable pub hornerStep : Float → Float → Float → Float
+hornerStep a c x = a ⊗ x ⊕ c
+
+-- the steps over the coefficients still to come, from the value so far
+unfoldable pub hornerFrom : Float → List Float → Float → Float
+unfolding hornerStep
+hornerFrom a [] x = a
+hornerFrom a (c ∷ cs) x = hornerFrom (hornerStep a c x) cs x
+
+-- a table's value at x: the highest coefficient is where the steps start
+unfoldable pub horner : List Float → Float → Float
+unfolding hornerFrom
+horner [] x = zero
+horner (c ∷ cs) x = hornerFrom c cs x
+
+-- x ← x/(1+√(1+x·x)): the tangent of half the angle whose tangent is x
+unfoldable pub halve : Float → Float
+halve x = x ⊘ (one ⊕ sqrtOf (one ⊕ x ⊗ x))
+
+-- atan where |x| ≤ 1: halved three times, then 8·(x·Horner in x·x)
+unfoldable pub atanSmall : Float → Float
+atanSmall x =
+    let h = halve (halve (halve x)) in
+    eight ⊗ (h ⊗ horner atanTable (h ⊗ h))
+
+-- ±π/2, minus only below zero
+unfoldable pub quarterTurn : Float → Float
+quarterTurn x = pick (lt x zero) (neg halfPi) halfPi
+
+-- atan: |x| > 1 gives ±π/2 − atan(1/x), and there |1/x| ≤ 1
+unfoldable pub atanOf : Float → Float
+atanOf x = pick (lt one (absOf x)) (quarterTurn x ⊖ atanSmall (one ⊘ x)) (atanSmall x)
+
+-- t ← (t+t)/(1−t·t): the tangent of twice the angle whose tangent is t
+unfoldable pub tanStep : Float → Float
+tanStep t = (t ⊕ t) ⊘ (one ⊖ t ⊗ t)
+
+-- tan: y = x/8, s and c by the two series in y·y, t = s/c, doubled three times
+unfoldable pub tanOf : Float → Float
+tanOf x =
+    let y = x ⊘ eight in
+    let s = y ⊗ horner sinTable (y ⊗ y) in
+    let c = horner cosTable (y ⊗ y) in
+    let t = s ⊘ c in
+    tanStep (tanStep (tanStep t))
+
+-- the angle of (x, y) where |x| ≥ |y|: atan(y/x), for x < 0 plus π if y ≥ 0, else minus π
+unfoldable pub wideAngle : Float → Float → Float
+wideAngle x y =
+    let a = atanOf (y ⊘ x) in
+    pick (lt x zero) (pick (le zero y) (a ⊕ pi) (a ⊖ pi)) a
+
+-- the angle of (x, y): 0 if both are 0, then by |x| ≥ |y|, otherwise ±π/2 − atan(x/y), minus only if y < 0
+unfoldable pub directionOf : Float → Float → Float
+directionOf x y =
+    pick (eq x zero and eq y zero) zero
+    (pick (le (absOf y) (absOf x)) (wideAngle x y)
+    (quarterTurn y ⊖ atanOf (x ⊘ y)))
+
+-- 000's angle(center, point): that of point less centre
+unfoldable pub angleOf : Vector2 → Vector2 → Float
+angleOf center point =
+    let v = point ⊟ center in
+    directionOf (v .x) (v .y)
+
+-- bulge to sweep, 000's angle_from_bulge
+unfoldable pub sweepOf : Float → Float
+sweepOf b = four ⊗ atanOf b
+
+-- sweep to bulge, 000's bulge_from_angle
+unfoldable pub bulgeOf : Float → Float
+bulgeOf a = tanOf (a ⊘ four)
+
+-- 000's normalize_radians: 2π is added to a negative angle
+unfoldable pub normalizedAngle : Float → Float
+normalizedAngle a = pick (lt a zero) (a ⊕ twoPi) a
