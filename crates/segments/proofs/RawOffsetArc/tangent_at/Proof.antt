@@ -1,0 +1,7 @@
+use Rattle.segments.specs.Segment.{tangentAt}
+use Rattle.segments.proofs.RawOffsetArc.tangent_at.Statement.{statement}
+use Rattle.segments.proofs.RawOffsetArc.tangent_at.Tie as tie
+
+pub tangent-at-spec : {M : Type 1} → statement M
+unfolding tangentAt
+tangent-at-spec = tie.close (tie.spec (λ c κs. tt) (λ c κs. tt) (λ c. cc))

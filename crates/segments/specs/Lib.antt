@@ -1,0 +1,2 @@
+pub mod Vertex
+pub mod Segment
