@@ -224,7 +224,11 @@ fn curved_seg(v1: PlineVertex, v2: PlineVertex, offset: f64) -> RawOffsetSeg
 }
 
 // The untrimmed offset segment from v1 to v2.
-pub fn create_untrimmed_raw_offset_seg(v1: PlineVertex, v2: PlineVertex, offset: f64) -> RawOffsetSeg
+pub fn create_untrimmed_raw_offset_seg(
+    v1: PlineVertex,
+    v2: PlineVertex,
+    offset: f64,
+) -> RawOffsetSeg
     ensures { λ x. ⌜ x ≡ offsetSeg v1 v2 offset ⌝ }
 {
     if v1.bulge_is_zero() {
@@ -300,7 +304,9 @@ impl RawOffsetSeg {
     {
         match self {
             RawOffsetSeg::Line(_) => 0.0,
-            RawOffsetSeg::Arc(arc) => angles::bulge_from_angle(arc.sweep * (end_param - start_param)),
+            RawOffsetSeg::Arc(arc) => angles::bulge_from_angle(
+                arc.sweep * (end_param - start_param),
+            ),
             RawOffsetSeg::Collapsed(_) => 0.0,
         }
     }

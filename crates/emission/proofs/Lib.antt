@@ -1,0 +1,14 @@
+pub mod Laws
+pub mod Over
+pub mod Emitted
+pub mod Finite
+pub mod Kept
+pub mod Lists
+pub mod SheetOf
+pub mod Rooms
+pub mod Finishes
+pub mod Walks
+pub mod Near
+pub mod Choices
+pub mod Closing
+pub mod Drawn
