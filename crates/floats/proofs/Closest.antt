@@ -1,14 +1,16 @@
 -- The nearest whole number to a fraction, from two strict bounds; and the fraction that stands for a square root, from bounds on the root. Assumes nothing.
 use mathlib.Core.Path.{_≡_, refl, sym, ap, _∙_, subst}
-use Prim.Native.Nat.{ℕ, zero, suc, _+_, _-_, _*_, _/_, _%_, _^_, _≤_, _<_, compare, Ordering, Ordering·lt, Ordering·eq, Ordering·gt}
-use native.Mathlib.Nat.{le-refl, le-trans, le-of-eq, le-of-lt, le-antisymm, le-of-suc-le-suc, lt-irrefl, suc-mul, add-mul, one-mul, mod-lt, div-add-mod', lt-of-mul-lt-mul-right}
+use mathlib.Core.Logic.{_⊎_, inl, inr}
+use Prim.Native.Nat.{ℕ, suc, _+_, _*_, _/_, _%_, _≤_, _<_, compare, Ordering, Ordering·lt, Ordering·eq, Ordering·gt}
+use native.Mathlib.Nat.{le-refl, le-trans, le-of-lt, le-antisymm, le-of-suc-le-suc, lt-irrefl, suc-mul, add-mul, one-mul, mod-lt, div-add-mod', lt-of-mul-lt-mul-right}
 use native.Mathlib.Omega.{arith}
-use mathlib.Core.Bool.{Bool, true, false, not, cond}
+use mathlib.Core.Bool.{Bool, true, false, not}
 use lib.Dec.{T, isLe, isEq, eqb, leb→le, nleb→lt, eqb→eq, eqb-refl}
 use lib.Arith.{lt-of-le-ne}
 use lib.Ieee.{nearest}
+use lib.Ieee.Fits.{eq→eqb}
 use lib.Ieee.Nearest.{closest}
-use Rattle.floats.specs.Root.{wholeRoot}
+use Rattle.floats.specs.Root.{wholeRoot, twiceRoot}
 use Rattle.floats.proofs.Whole.{whole-low, whole-high, sq-le, sq-lt}
 
 -- ---- what `compare` says
@@ -52,31 +54,36 @@ closest-is A B q p lo hi =
     (λ h. lt-of-mul-lt-mul-right B h)
     (λ h. next q (suc w) B (subst (λ (x : ℕ). q * B < x + B) (sym (suc-mul w B)) h))
 
--- ---- the numerator that `rootOf` rounds, over 2: it is √n, or the middle of the two whole numbers that √n lies between
-abbrev pub twice : ℕ → ℕ
-twice n = 2 * wholeRoot n + cond (eqb (wholeRoot n * wholeRoot n) n) 0 1
+-- ---- what `twiceRoot` is
+exact : (n : ℕ) → eqb (wholeRoot n * wholeRoot n) n ≡ true → twiceRoot n ≡ 2 * wholeRoot n
+unfolding twiceRoot
+exact n e = rw e (omega arith)
 
--- it is above every c below √n, and below every d above √n
-pub twice-above : (n c : ℕ) → c * c < n → 2 * c < twice n
-twice-above n c h = go (eqb (wholeRoot n * wholeRoot n) n) (eqb→eq (wholeRoot n * wholeRoot n) n)
+between : (n : ℕ) → eqb (wholeRoot n * wholeRoot n) n ≡ false → twiceRoot n ≡ 2 * wholeRoot n + 1
+unfolding twiceRoot
+between n e = rw e (omega arith)
+
+pub twice-cases : (n : ℕ) → ((wholeRoot n * wholeRoot n ≡ n) × (twiceRoot n ≡ 2 * wholeRoot n)) ⊎ ((wholeRoot n * wholeRoot n ≡ n → ⊥) × (twiceRoot n ≡ 2 * wholeRoot n + 1))
+twice-cases n = go (eqb (wholeRoot n * wholeRoot n) n) refl
   where
-    go : (b : Bool) → (T b → wholeRoot n * wholeRoot n ≡ n) → 2 * c < 2 * wholeRoot n + cond b 0 1
-    go true e =
-        let l : c < wholeRoot n = sq-lt c (wholeRoot n) (c * c) (le-refl (c * c)) (subst (λ (x : ℕ). c * c < x) (sym (e tt)) h) in
-        omega arith
-    go false e =
-        let l : c ≤ wholeRoot n = sq-le c (wholeRoot n) n (le-of-lt h) (whole-high n) in
-        omega arith
+    go : (b : Bool) → eqb (wholeRoot n * wholeRoot n) n ≡ b → ((wholeRoot n * wholeRoot n ≡ n) × (twiceRoot n ≡ 2 * wholeRoot n)) ⊎ ((wholeRoot n * wholeRoot n ≡ n → ⊥) × (twiceRoot n ≡ 2 * wholeRoot n + 1))
+    go true e = inl (eqb→eq (wholeRoot n * wholeRoot n) n (subst T (sym e) tt), exact n e)
+    go false e = inr ((λ k. subst T e (eq→eqb k)), between n e)
 
-pub twice-below : (n d : ℕ) → n < d * d → twice n < 2 * d
-twice-below n d h = go (eqb (wholeRoot n * wholeRoot n) n)
-  where
-    go : (b : Bool) → 2 * wholeRoot n + cond b 0 1 < 2 * d
-    go true = let l : wholeRoot n < d = sq-lt (wholeRoot n) d n (whole-low n) h in omega arith
-    go false = let l : wholeRoot n < d = sq-lt (wholeRoot n) d n (whole-low n) h in omega arith
+-- it is above every 2 * c with c below √n, and below every 2 * d with d above √n
+pub twice-above : (n c : ℕ) → c * c < n → 2 * c < twiceRoot n
+twice-above n c h = elim (twice-cases n) [
+  | inl k ↦ let l : c < wholeRoot n = sq-lt c (wholeRoot n) (c * c) (le-refl (c * c)) (subst (λ (x : ℕ). c * c < x) (sym (k .0)) h) in omega (arith, k .1)
+  | inr k ↦ let l : c ≤ wholeRoot n = sq-le c (wholeRoot n) n (le-of-lt h) (whole-high n) in omega (arith, k .1)
+]
 
--- and at least every c up to √n
-pub twice-reaches : (n c : ℕ) → c * c ≤ n → 2 * c ≤ twice n
+pub twice-below : (n d : ℕ) → n < d * d → twiceRoot n < 2 * d
+twice-below n d h =
+    let l : wholeRoot n < d = sq-lt (wholeRoot n) d n (whole-low n) h in
+    elim (twice-cases n) [ inl k ↦ omega (arith, k .1) | inr k ↦ omega (arith, k .1) ]
+
+-- and at least every 2 * c with c up to √n
+pub twice-reaches : (n c : ℕ) → c * c ≤ n → 2 * c ≤ twiceRoot n
 twice-reaches n c h =
     let l : c ≤ wholeRoot n = sq-le c (wholeRoot n) n h (whole-high n) in
-    omega arith
+    elim (twice-cases n) [ inl k ↦ omega (arith, k .1) | inr k ↦ omega (arith, k .1) ]

@@ -1,5 +1,5 @@
 -- The arithmetic of `slow_root`: the square root of w * 2 ^ 52, two binary digits a turn. Assumes nothing.
-use mathlib.Core.Path.{_≡_, refl, sym, ap, _∙_, subst}
+use mathlib.Core.Path.{_≡_, refl, sym, ap, _∙_}
 use Prim.Native.Nat.{ℕ, zero, suc, _+_, _-_, _*_, _/_, _%_, _^_, _≤_, _<_}
 use native.Mathlib.Nat.{le-trans, le-of-eq, zero-add, mul-one, one-mul, mul-comm, mul-assoc, mul-add, add-mul, mul-le-mul-left, mul-le-mul-right, mul-div-cancel, pow-succ', two-mul}
 use native.Mathlib.Omega.{arith}

@@ -1,14 +1,14 @@
 -- The arithmetic of `finish`: m * 2 ^ (e + 52) as w * 2 ^ 52 * 4 ^ (e / 2). Assumes nothing.
-use mathlib.Core.Path.{_≡_, refl, sym, ap, _∙_, subst}
+use mathlib.Core.Path.{_≡_, refl, sym, ap, _∙_}
 use mathlib.Core.Logic.{_⊎_, inl, inr}
 use Prim.Native.Nat.{ℕ, zero, suc, _+_, _-_, _*_, _/_, _%_, _^_, _≤_, _<_}
 use native.Mathlib.Nat.{zero-mul, one-mul, add-zero, mul-assoc, mul-left-comm, mul-comm, pow-succ'}
 use native.Mathlib.Omega.{arith}
 use lib.Pow.{pow-add}
-use lib.Ieee.{Float, binary64, ofBits}
+use lib.Ieee.{binary64, ofBits}
 use Rattle.floats.specs.Steps.{NearRoot}
 use Rattle.floats.specs.Root.{rootOf}
-use Rattle.floats.proofs.Result.{root-bits, wide, q-high}
+use Rattle.floats.proofs.Result.{root-bits, q-high}
 
 abbrev pub evened : ℕ → ℕ → ℕ
 evened m e = m + e % 2 * m
@@ -30,7 +30,7 @@ half-even e h = omega arith
 half-odd : (e : ℕ) → e % 2 ≡ 1 → suc (e / 2 + e / 2) ≡ e
 half-odd e h = omega arith
 
-pub evened-is : (m e : ℕ) → evened m e * 2 ^ 52 * (2 ^ (e / 2) * 2 ^ (e / 2)) ≡ m * 2 ^ (e + 52)
+evened-is : (m e : ℕ) → evened m e * 2 ^ 52 * (2 ^ (e / 2) * 2 ^ (e / 2)) ≡ m * 2 ^ (e + 52)
 evened-is m e = go (parity (e % 2) m (omega arith))
   where
     j : ℕ

@@ -1,30 +1,52 @@
--- Laws of `sqrtOf` above zero. It is monotone (`sqrt-mono`); it is at least every binary64 x with x * x ≤ y (`below-root`), and at most every one with y ≤ x * x (`above-root`);
--- and it is finite and above zero (`sqrt-positive`). Assumes nothing.
+-- Laws of `sqrtOf`. Its values at the edges (`sqrt-zero`, `sqrt-inf`, `sqrt-nan`, `sqrt-minus-inf`, `sqrt-negative`). From zero to infinity it is monotone (`sqrt-mono-up`).
+-- For x and y above zero, x * x ≤ y gives x ≤ √y (`below-root`) and y ≤ x * x gives √y ≤ x (`above-root`), where x * x is the exact square, and not the rounded product.
+-- Above zero it is finite and above zero (`sqrt-positive`), and it fits where its argument does (`sqrt-fits`). That it is the nearest is in `Nearest`. Assumes nothing.
 use mathlib.Core.Path.{_≡_, refl, sym, ap, _∙_, subst}
 use mathlib.Core.Logic.{_⊎_, inl, inr}
 use Prim.Native.Nat.{ℕ, zero, suc, _+_, _-_, _*_, _/_, _%_, _^_, _≤_, _<_, zero-le}
-use native.Mathlib.Nat.{zero-mul, le-refl, le-trans, le-of-eq, le-of-lt, lt-of-lt-of-le, lt-of-le-of-lt, lt-irrefl, eq-or-lt-of-le, le-antisymm, mul-one, one-mul, mul-comm, mul-assoc, mul-left-comm, mul-right-comm, mul-mul-mul-comm, mul-pos, mul-le-mul, mul-le-mul-left, mul-le-mul-right, le-of-mul-le-mul-right, zero-lt-suc, mul-lt-mul-of-pos-right, le-div-iff-mul-le, div-lt-iff-lt-mul, div-mul-le-self, lt-of-not-le, le-of-suc-le-suc}
+use native.Mathlib.Nat.{zero-mul, le-refl, le-trans, le-of-eq, le-of-lt, lt-of-lt-of-le, lt-of-le-of-lt, lt-irrefl, eq-or-lt-of-le, le-antisymm, mul-one, one-mul, mul-comm, mul-assoc, mul-left-comm, mul-right-comm, mul-mul-mul-comm, mul-pos, mul-le-mul-right, le-of-mul-le-mul-right, zero-lt-suc, mul-lt-mul-of-pos-right, le-div-iff-mul-le, div-lt-iff-lt-mul, div-mul-le-self, lt-of-not-le, le-of-suc-le-suc}
 use native.Mathlib.Omega.{arith}
-use mathlib.Core.Bool.{Bool, true, false, not, _&&_, _||_, cond}
+use mathlib.Core.Bool.{Bool, true, false, _&&_, _||_}
 use lib.IntN.{ℤ, pos, negsuc}
-use lib.Dec.{T, ltb, leb, eqb, ltb→lt, lt→ltb, leb→le, eqb→eq, lit≤, lit<}
+use lib.Dec.{T, ltb, leb, eqb, ltb→lt, lt→ltb, leb→le, eqb→eq}
 use lib.Pow.{pow-add, pow-pos, pow-mono, pow-lt, shl-lt}
 use lib.Ieee.{Float, nan, inf, fin, binary64, up, down, round, fits, le, below, level, ofBits}
-use lib.Ieee.Fits.{and-l, and-r, up-pos, down-pos, eq→eqb, nan-fits, inf-fits, round-fits}
+use lib.Ieee.Fits.{and-l, and-r, up-pos, down-pos, nan-fits, inf-fits, round-fits}
 use lib.Ieee.Exact.{HasValue, round-exact}
 use lib.Ieee.Nearest.{div-mono}
 use lib.Ieee.Order.{round-mono, le-of-values}
 use lib.Ieee.Positive.{num, den, den-pos, positive, own-value, le→cross, positive-of-value, le-trans-positive, between, above, above-of-le}
-use Rattle.floats.specs.Root.{sqrtOf, rootOf, wholeRoot}
+use Rattle.floats.specs.Root.{sqrtOf, rootOf, wholeRoot, twiceRoot}
 use Rattle.floats.proofs.Whole.{whole-low, whole-high, sq-le, sq-suc}
-use Rattle.floats.proofs.Closest.{twice, twice-reaches, twice-below}
+use Rattle.floats.proofs.Closest.{twice-cases, twice-reaches, twice-below}
+
+-- ---- at the edges: a zero of either sign and +∞ are their own roots, and below zero there is none
+pub sqrt-zero : (s : Bool) (e : ℤ) → sqrtOf (fin s 0 e) ≡ fin s 0 e
+unfolding sqrtOf
+sqrt-zero s e = refl
+
+pub sqrt-inf : sqrtOf (inf false) ≡ inf false
+unfolding sqrtOf
+sqrt-inf = refl
+
+pub sqrt-nan : sqrtOf nan ≡ nan
+unfolding sqrtOf
+sqrt-nan = refl
+
+pub sqrt-minus-inf : sqrtOf (inf true) ≡ nan
+unfolding sqrtOf
+sqrt-minus-inf = refl
+
+pub sqrt-negative : (m : ℕ) (e : ℤ) → sqrtOf (fin true (suc m) e) ≡ nan
+unfolding sqrtOf
+sqrt-negative m e = refl
 
 -- ---- above zero the root is `round` of this fraction
 abbrev pub area : Float → ℕ
 area x = num x * 2 ^ 2150 / den x
 
-pub sqrt-is : (x : Float) → T (positive x) → sqrtOf x ≡ round binary64 false (twice (area x)) (2 ^ 1076)
-unfolding sqrtOf
+pub sqrt-is : (x : Float) → T (positive x) → sqrtOf x ≡ round binary64 false (twiceRoot (area x)) (2 ^ 1076)
+unfolding sqrtOf rootOf
 sqrt-is nan p = absurd p
 sqrt-is (inf s) p = absurd p
 sqrt-is (fin true m e) p = absurd p
@@ -32,33 +54,29 @@ sqrt-is (fin false zero e) p = absurd p
 sqrt-is (fin false (suc m) e) p = refl
 
 -- ---- monotone
-twice-mono : (n k : ℕ) → n ≤ k → twice n ≤ twice k
-twice-mono n k h = go (eq-or-lt-of-le (sq-le (wholeRoot n) (wholeRoot k) k (le-trans (whole-low n) h) (whole-high k)))
+twice-mono : (n k : ℕ) → n ≤ k → twiceRoot n ≤ twiceRoot k
+twice-mono n k h = elim (twice-cases n) [
+  | inl p ↦ elim (twice-cases k) [ inl q ↦ omega (arith, p .1, q .1, w) | inr q ↦ omega (arith, p .1, q .1, w) ]
+  | inr p ↦ elim (twice-cases k) [ inl q ↦ omega (arith, p .1, q .1, strictly p q (eq-or-lt-of-le w)) | inr q ↦ omega (arith, p .1, q .1, w) ]
+]
   where
-    -- the last digit of twice k, where the two whole parts are the same
-    last : (a b : Bool) → wholeRoot n ≡ wholeRoot k → (T a → wholeRoot n * wholeRoot n ≡ n) → (T b → wholeRoot k * wholeRoot k ≡ k) → (wholeRoot n * wholeRoot n ≡ n → T a)
-        → 2 * wholeRoot n + cond a 0 1 ≤ 2 * wholeRoot k + cond b 0 1
-    last true b e p q r = omega arith
-    last false false e p q r = omega arith
-    last false true e p q r =
-        absurd (r (le-antisymm (whole-low n) (le-trans h (le-of-eq (sym (q tt) ∙ ap (λ (x : ℕ). x * x) (sym e))))))
+    w : wholeRoot n ≤ wholeRoot k
+    w = sq-le (wholeRoot n) (wholeRoot k) k (le-trans (whole-low n) h) (whole-high k)
 
-    less : (a b : Bool) → wholeRoot n < wholeRoot k → 2 * wholeRoot n + cond a 0 1 ≤ 2 * wholeRoot k + cond b 0 1
-    less true b l = omega arith
-    less false b l = omega arith
-
-    go : (wholeRoot n ≡ wholeRoot k) ⊎ (wholeRoot n < wholeRoot k) → twice n ≤ twice k
-    go (inl e) = last (eqb (wholeRoot n * wholeRoot n) n) (eqb (wholeRoot k * wholeRoot k) k) e (eqb→eq (wholeRoot n * wholeRoot n) n) (eqb→eq (wholeRoot k * wholeRoot k) k) (λ p. eq→eqb p)
-    go (inr l) = less (eqb (wholeRoot n * wholeRoot n) n) (eqb (wholeRoot k * wholeRoot k) k) l
+    -- were the two the same, n would be a square, as k is
+    strictly : (wholeRoot n * wholeRoot n ≡ n → ⊥) × (twiceRoot n ≡ 2 * wholeRoot n + 1) → (wholeRoot k * wholeRoot k ≡ k) × (twiceRoot k ≡ 2 * wholeRoot k) → (wholeRoot n ≡ wholeRoot k) ⊎ (wholeRoot n < wholeRoot k)
+        → wholeRoot n < wholeRoot k
+    strictly p q (inl e) = absurd (p .0 (le-antisymm (whole-low n) (le-trans h (le-of-eq (sym (q .0) ∙ ap (λ (x : ℕ). x * x) (sym e))))))
+    strictly p q (inr l) = l
 
 scaled : (a b c d k : ℕ) → a * d ≤ c * b → a * k * d ≤ c * k * b
 scaled a b c d k h = le-trans (le-of-eq (mul-right-comm a k d)) (le-trans (mul-le-mul-right k h) (le-of-eq (mul-right-comm c b k)))
 
-pub sqrt-mono : (x y : Float) → T (positive x) → T (positive y) → T (le x y) → T (le (sqrtOf x) (sqrtOf y))
+sqrt-mono : (x y : Float) → T (positive x) → T (positive y) → T (le x y) → T (le (sqrtOf x) (sqrtOf y))
 sqrt-mono x y p q h =
     subst (λ (z : Float). T (le z (sqrtOf y))) (sym (sqrt-is x p))
-    (subst (λ (z : Float). T (le (round binary64 false (twice (area x)) (2 ^ 1076)) z)) (sym (sqrt-is y q))
-    (round-mono binary64 (twice (area x)) (2 ^ 1076) (twice (area y)) (2 ^ 1076) (pow-pos 1076) (pow-pos 1076)
+    (subst (λ (z : Float). T (le (round binary64 false (twiceRoot (area x)) (2 ^ 1076)) z)) (sym (sqrt-is y q))
+    (round-mono binary64 (twiceRoot (area x)) (2 ^ 1076) (twiceRoot (area y)) (2 ^ 1076) (pow-pos 1076) (pow-pos 1076)
     (mul-le-mul-right (2 ^ 1076)
     (twice-mono (area x) (area y) (div-mono (num x * 2 ^ 2150) (den x) (num y * 2 ^ 2150) (den y) (den-pos x) (den-pos y) (scaled (num x) (den x) (num y) (den y) (2 ^ 2150) (le→cross x y p q h)))))))
 
@@ -163,13 +181,13 @@ pub sqrt-positive : (x : Float) → T (positive x) → T (fits binary64 x) → T
 unfolding least greatest
 sqrt-positive x p f =
     let g = on-grid x p f in
-    let a = twice (area x) in
+    let a = twiceRoot (area x) in
     subst (λ (z : Float). T (positive z)) (sym (sqrt-is x p))
     (between least (round binary64 false a (2 ^ 1076)) greatest least-positive greatest-positive
     (round-mono binary64 (2 ^ 539) (2 ^ 1076) a (2 ^ 1076) (pow-pos 1076) (pow-pos 1076) (mul-le-mul-right (2 ^ 1076) (twice-reaches (area x) (2 ^ 538) (area-low x g))))
     (round-mono binary64 a (2 ^ 1076) (2 ^ 1588) (2 ^ 1076) (pow-pos 1076) (pow-pos 1076) (mul-le-mul-right (2 ^ 1076) (le-of-lt (twice-below (area x) (2 ^ 1587) (area-high x g))))))
 
--- ---- x * x ≤ y, as fractions
+-- ---- x * x ≤ y and y ≤ x * x, as fractions: x is num x / den x
 abbrev pub SquareLe : Float → Float → Type 0
 SquareLe x y = num x * num x * den y ≤ num y * (den x * den x)
 
@@ -214,23 +232,22 @@ below-root x y p f q k h =
     le-trans-positive x R (sqrtOf y) p r (sqrt-positive y q k)
     (le-of-values x R (num x) (den x) (num x) (den x) (den-pos x) (den-pos x) (own-value x p) v (le-refl (num x * den x)))
     (subst (λ (z : Float). T (le R z)) (sym (sqrt-is y q))
-    (round-mono binary64 (num x) (den x) (twice n) (2 ^ 1076) (den-pos x) (pow-pos 1076)
+    (round-mono binary64 (num x) (den x) (twiceRoot n) (2 ^ 1076) (den-pos x) (pow-pos 1076)
     (le-trans (le-of-eq (sym (mul-assoc (num x) (2 ^ 1075) 2) ∙ doubled (num x * 2 ^ 1075) (den x) u (units-is x g))) (mul-le-mul-right (den x) (twice-reaches n u l)))))
 
--- twice n is at most 2 * u where n ≤ u * u
-twice-at-most : (n u : ℕ) → n ≤ u * u → twice n ≤ 2 * u
-twice-at-most n u h = go (eqb (wholeRoot n * wholeRoot n) n) (λ p. eq→eqb p) (sq-le (wholeRoot n) u (u * u) (le-trans (whole-low n) h) (next u))
+-- twice √n is at most 2 * u where n ≤ u * u
+twice-at-most : (n u : ℕ) → n ≤ u * u → twiceRoot n ≤ 2 * u
+twice-at-most n u h = elim (twice-cases n) [ inl k ↦ omega (arith, k .1, w) | inr k ↦ omega (arith, k .1, strictly k (eq-or-lt-of-le w)) ]
   where
     next : (u : ℕ) → u * u < (u + 1) * (u + 1)
     next u = let e : (u + 1) * (u + 1) ≡ u * u + 2 * u + 1 = sq-suc u in omega arith
 
-    go : (b : Bool) → (wholeRoot n * wholeRoot n ≡ n → T b) → wholeRoot n ≤ u → 2 * wholeRoot n + cond b 0 1 ≤ 2 * u
-    go true r l = omega arith
-    go false r l = below (eq-or-lt-of-le l)
-      where
-        below : (wholeRoot n ≡ u) ⊎ (wholeRoot n < u) → 2 * wholeRoot n + 1 ≤ 2 * u
-        below (inl e) = absurd (r (le-antisymm (whole-low n) (le-trans h (le-of-eq (ap (λ (z : ℕ). z * z) (sym e))))))
-        below (inr k) = omega arith
+    w : wholeRoot n ≤ u
+    w = sq-le (wholeRoot n) u (u * u) (le-trans (whole-low n) h) (next u)
+
+    strictly : (wholeRoot n * wholeRoot n ≡ n → ⊥) × (twiceRoot n ≡ 2 * wholeRoot n + 1) → (wholeRoot n ≡ u) ⊎ (wholeRoot n < u) → wholeRoot n < u
+    strictly k (inl e) = absurd (k .0 (le-antisymm (whole-low n) (le-trans h (le-of-eq (ap (λ (z : ℕ). z * z) (sym e))))))
+    strictly k (inr l) = l
 
 pub above-root : (x y : Float) → T (positive x) → T (fits binary64 x) → T (positive y) → T (fits binary64 y) → LeSquare y x → T (le (sqrtOf y) x)
 above-root x y p f q k h =
@@ -243,7 +260,7 @@ above-root x y p f q k h =
     let r : T (positive R) = positive-of-value R (num x) (den x) v (num-pos x p) in
     le-trans-positive (sqrtOf y) R x (sqrt-positive y q k) r p
     (subst (λ (z : Float). T (le z R)) (sym (sqrt-is y q))
-    (round-mono binary64 (twice n) (2 ^ 1076) (num x) (den x) (pow-pos 1076) (den-pos x)
+    (round-mono binary64 (twiceRoot n) (2 ^ 1076) (num x) (den x) (pow-pos 1076) (den-pos x)
     (le-trans (mul-le-mul-right (den x) (twice-at-most n u l)) (le-of-eq (sym (sym (mul-assoc (num x) (2 ^ 1075) 2) ∙ doubled (num x * 2 ^ 1075) (den x) u (units-is x g)))))))
     (le-of-values R x (num x) (den x) (num x) (den x) (den-pos x) (den-pos x) v (own-value x p) (le-refl (num x * den x)))
   where
@@ -329,14 +346,6 @@ up-of s e (fin t zero d) h = none
 up-of s e (fin true (suc n) d) h = absurd (zero-not-le s e n d h)
 up-of s e (fin false (suc n) d) h = some (lt→ltb 0 (suc n) (zero-lt-suc n))
 
-sqrt-zero : (s : Bool) (e : ℤ) → sqrtOf (fin s 0 e) ≡ fin s 0 e
-unfolding sqrtOf
-sqrt-zero s e = refl
-
-sqrt-inf : sqrtOf (inf false) ≡ inf false
-unfolding sqrtOf
-sqrt-inf = refl
-
 from-zero : (s : Bool) (e : ℤ) (y : Float) → T (fits binary64 y) → T (le (fin s 0 e) y) → T (le (sqrtOf (fin s 0 e)) (sqrtOf y))
 from-zero s e y k h = subst (λ (z : Float). T (le z (sqrtOf y))) (sym (sqrt-zero s e)) (go (up-of s e y h) k h)
   where
@@ -377,4 +386,4 @@ sqrt-fits (inf true) h = nan-fits binary64
 sqrt-fits (inf false) h = inf-fits binary64 false
 sqrt-fits (fin s zero e) h = h
 sqrt-fits (fin true (suc m) e) h = nan-fits binary64
-sqrt-fits (fin false (suc m) e) h = round-fits binary64 false (twice (suc m * up e * 2 ^ 2150 / down e)) (2 ^ 1076)
+sqrt-fits (fin false (suc m) e) h = round-fits binary64 false (twiceRoot (suc m * up e * 2 ^ 2150 / down e)) (2 ^ 1076)

@@ -6,11 +6,11 @@ pub mod Whole
 pub mod Closest
 pub mod Result
 pub mod Digits
-pub mod Halves
+pub mod Residue
 pub mod Reading
 pub mod Even
 pub mod Laws
-pub mod Correct
+pub mod Nearest
 pub mod Fit
 pub mod Order
 pub mod Monotone

@@ -2,15 +2,15 @@
 use mathlib.Core.Path.{_≡_, refl, sym, ap, _∙_, subst}
 use mathlib.Core.Logic.{_⊎_, inl, inr}
 use Prim.Native.Nat.{ℕ, zero, suc, _+_, _-_, _*_, _/_, _%_, _^_, _≤_, _<_}
-use native.Mathlib.Nat.{lt-of-lt-of-le, lt-of-le-of-lt, lt-of-not-le, not-le-of-lt, lt-irrefl, eq-zero-or-pos, zero-mul, zero-add, mul-one, mul-comm, mul-assoc, mul-right-comm, mul-pos, mul-le-mul-right, mul-div-cancel, mod-eq-of-lt, pow-succ', suc-mul, zero-lt-suc, lt-of-mul-lt-mul-right}
+use native.Mathlib.Nat.{lt-of-lt-of-le, lt-of-le-of-lt, lt-of-not-le, lt-irrefl, eq-zero-or-pos, zero-mul, mul-one, mul-assoc, mul-right-comm, mul-pos, mul-le-mul-right, mul-div-cancel, mod-eq-of-lt, zero-lt-suc}
 use native.Mathlib.Omega.{arith}
 use mathlib.Core.Bool.{Bool, true, false, not, _||_, Bool·beq, cond, true≢false, false≢true}
-use lib.IntN.{ℤ, pos, negsuc}
-use lib.Dec.{T, leb, ltb, eqb, leb→le, nleb→lt, ltb→lt, lt→ltb, eqb→eq, le→leb}
+use lib.IntN.{ℤ}
+use lib.Dec.{T, leb, ltb, eqb, nleb→lt, lt→ltb, eqb→eq}
 use lib.Arith.{lt→nleb, le→nltb}
-use lib.Pow.{pow-add, pow-pos, pow-mono, pow-lt, shl-lt, shl-exact}
-use lib.Count.{leadingZeros, leading-top, leading-le}
-use lib.Ieee.{Float, nan, inf, fin, Format, binary64, up, down, odd, fits, isNan, ofFields, ofBits, nanBits, toBits, lt, eq, div, level}
+use lib.Pow.{pow-add, pow-pos, pow-mono, shl-lt}
+use lib.Count.{leadingZeros, leading-top}
+use lib.Ieee.{Float, nan, inf, fin, binary64, up, down, odd, fits, isNan, ofFields, ofBits, nanBits, toBits, lt, eq, div, level}
 use lib.Ieee.Fits.{down-pos, up-pos, and-l}
 use lib.Ieee.Bits.{is-true, is-false, ofBits-toBits, toBits-lt, nanBits-above}
 use lib.Ieee.Exact.{HasValue, odd-sign}
@@ -36,7 +36,7 @@ unfolding ofFields
 low-at b zero t e f = subst (λ (y : ℕ). HasValue (odd 53 false t 0 1074) false y (2 ^ 1074)) (mul-one t ∙ f) (odd-sign 53 false t 0 1074)
 low-at b (suc x) t e f = absurd (none-suc x e)
 
-pub value-low : (b : ℕ) → b < 2 ^ 52 → HasValue (ofBits binary64 b) false b (2 ^ 1074)
+value-low : (b : ℕ) → b < 2 ^ 52 → HasValue (ofBits binary64 b) false b (2 ^ 1074)
 value-low b h =
     subst (λ (v : Float). HasValue v false b (2 ^ 1074)) (sym (read b (omega arith)))
     (low-at b (b / 2 ^ 52) (b % 2 ^ 52) (omega arith) (omega arith))
@@ -66,7 +66,7 @@ mid-at (suc x) t l h =
     pick (eqb (suc x) 2047) (cond (eqb t 0) (inf false) nan) (odd 53 false (2 ^ 52 + t) x 1074) ((2 ^ 52 + t) * 2 ^ (suc x - 1)) (differs x h)
     (subst (λ (y : ℕ). HasValue (odd 53 false (2 ^ 52 + t) x 1074) false ((2 ^ 52 + t) * 2 ^ y) (2 ^ 1074)) (one-less x) (odd-sign 53 false (2 ^ 52 + t) x 1074))
 
-pub value-mid : (b : ℕ) → 2 ^ 52 ≤ b → b < 2047 * 2 ^ 52 → HasValue (ofBits binary64 b) false ((2 ^ 52 + b % 2 ^ 52) * 2 ^ (b / 2 ^ 52 - 1)) (2 ^ 1074)
+value-mid : (b : ℕ) → 2 ^ 52 ≤ b → b < 2047 * 2 ^ 52 → HasValue (ofBits binary64 b) false ((2 ^ 52 + b % 2 ^ 52) * 2 ^ (b / 2 ^ 52 - 1)) (2 ^ 1074)
 value-mid b lo hi =
     subst (λ (v : Float). HasValue v false ((2 ^ 52 + b % 2 ^ 52) * 2 ^ (b / 2 ^ 52 - 1)) (2 ^ 1074)) (sym (read b (omega arith)))
     (mid-at (b / 2 ^ 52) (b % 2 ^ 52) (omega arith) (omega arith))
@@ -115,7 +115,7 @@ bits-high b lo hi = fields-high (leb (2 ^ 63) b) (b % 2 ^ 63 / 2 ^ 52) (b % 2 ^ 
         top k = omega arith
 
 -- ---- the root by the value
-pub sqrt-of-value : (x : Float) (a : ℕ) → 0 < a → HasValue x false a (2 ^ 1074) → sqrtOf x ≡ rootOf (a * 2 ^ 1076)
+sqrt-of-value : (x : Float) (a : ℕ) → 0 < a → HasValue x false a (2 ^ 1074) → sqrtOf x ≡ rootOf (a * 2 ^ 1076)
 unfolding sqrtOf
 sqrt-of-value nan a p v = absurd v
 sqrt-of-value (inf s) a p v = absurd v
@@ -150,25 +150,31 @@ top-cases (fin false m e) h k = absurd (false≢true k)
 pub root-of-top : (x : Float) → T (fits binary64 x) → lt origin x ≡ true → 2047 * 2 ^ 52 ≤ toBits binary64 x → sqrtOf x ≡ x
 root-of-top x f h l = top-cases x h (subst High (ofBits-toBits binary64 x f) (bits-high (toBits binary64 x) l (toBits-lt binary64 x f)))
 
--- ---- a normal value above zero
--- its exponent's field x and its digits t: (2 ^ 52 + t) * 2 ^ (x - 1) units
+-- ---- what the code takes the root of: u has the exponent e and the digits m, of which the first counts into the exponent
+abbrev pub handed : ℕ → ℕ
+handed u = (u % 2 ^ 52 + 2 ^ 52) * 2 ^ (u / 2 ^ 52 + 52)
+
+handed-is : (u m e : ℕ) → 0 < e → 2 ^ 52 ≤ m → m < 2 ^ 53 → u ≡ (e - 1) * 2 ^ 52 + m → m * 2 ^ (e + 52) ≡ handed u
+handed-is u m e p lo hi is =
+    let digits : m ≡ u % 2 ^ 52 + 2 ^ 52 = omega arith in
+    let exponent : e ≡ u / 2 ^ 52 = omega arith in
+    ap (λ (x : ℕ). x * 2 ^ (e + 52)) digits ∙ ap (λ (x : ℕ). (u % 2 ^ 52 + 2 ^ 52) * 2 ^ (x + 52)) exponent
+
+-- ---- a normal value above zero: with x for its exponent's field and t for its digits, (2 ^ 52 + t) * 2 ^ (x - 1) units
 shifts : (x m : ℕ) → 0 < x → m * 2 ^ (x - 1) * 2 ^ 1076 ≡ m * 2 ^ (x + 1023 + 52)
 shifts x m h = mul-assoc m (2 ^ (x - 1)) (2 ^ 1076) ∙ ap (λ (z : ℕ). m * z) (sym (pow-add 2 (x - 1) 1076) ∙ ap (λ (z : ℕ). 2 ^ z) (same x h))
   where
     same : (x : ℕ) → 0 < x → x - 1 + 1076 ≡ x + 1023 + 52
     same x h = omega arith
 
-swapped : (a b : ℕ) → a + b ≡ b + a
-swapped a b = omega arith
-
-pub root-of-normal : (x : Float) → T (fits binary64 x) → 2 ^ 52 ≤ toBits binary64 x → toBits binary64 x < 2047 * 2 ^ 52
-    → sqrtOf x ≡ rootOf ((toBits binary64 x % 2 ^ 52 + 2 ^ 52) * 2 ^ (toBits binary64 x / 2 ^ 52 + 1023 + 52))
+pub root-of-normal : (x : Float) → T (fits binary64 x) → 2 ^ 52 ≤ toBits binary64 x → toBits binary64 x < 2047 * 2 ^ 52 → sqrtOf x ≡ rootOf (handed (toBits binary64 x + 1023 * 2 ^ 52))
 root-of-normal x f lo hi =
     let b = toBits binary64 x in
-    let v : HasValue x false ((2 ^ 52 + b % 2 ^ 52) * 2 ^ (b / 2 ^ 52 - 1)) (2 ^ 1074) =
-    subst (λ (y : Float). HasValue y false ((2 ^ 52 + b % 2 ^ 52) * 2 ^ (b / 2 ^ 52 - 1)) (2 ^ 1074)) (ofBits-toBits binary64 x f) (value-mid b lo hi) in
-    sqrt-of-value x ((2 ^ 52 + b % 2 ^ 52) * 2 ^ (b / 2 ^ 52 - 1)) (mul-pos (some (b % 2 ^ 52)) (pow-pos (b / 2 ^ 52 - 1))) v
-    ∙ ap rootOf (shifts (b / 2 ^ 52) (2 ^ 52 + b % 2 ^ 52) (omega arith) ∙ ap (λ (z : ℕ). z * 2 ^ (b / 2 ^ 52 + 1023 + 52)) (swapped (2 ^ 52) (b % 2 ^ 52)))
+    let m = 2 ^ 52 + b % 2 ^ 52 in
+    let e = b / 2 ^ 52 in
+    let v : HasValue x false (m * 2 ^ (e - 1)) (2 ^ 1074) = subst (λ (y : Float). HasValue y false (m * 2 ^ (e - 1)) (2 ^ 1074)) (ofBits-toBits binary64 x f) (value-mid b lo hi) in
+    sqrt-of-value x (m * 2 ^ (e - 1)) (mul-pos (some (b % 2 ^ 52)) (pow-pos (e - 1))) v
+    ∙ ap rootOf (shifts e m (omega arith) ∙ handed-is (b + 1023 * 2 ^ 52) m (e + 1023) (omega arith) (omega arith) (omega arith) (omega arith))
   where
     some : (t : ℕ) → 0 < 2 ^ 52 + t
     some t = omega arith
@@ -227,18 +233,23 @@ bits-pos x f h = go (eq-zero-or-pos (toBits binary64 x))
     go (inr p) = p
 
 pub root-of-low : (x : Float) → T (fits binary64 x) → lt origin x ≡ true → toBits binary64 x < 2 ^ 52
-    → sqrtOf x ≡ rootOf ((toBits binary64 x * 2 ^ places (toBits binary64 x)) % 2 ^ 64 * 2 ^ (1024 - places (toBits binary64 x) + 52))
+    → sqrtOf x ≡ rootOf (handed ((1023 - places (toBits binary64 x)) * 2 ^ 52 + (toBits binary64 x * 2 ^ places (toBits binary64 x)) % 2 ^ 64))
 root-of-low x f h l =
     let b = toBits binary64 x in
     let p : 0 < b = bits-pos x f h in
     let k = brought b p l in
     let z = places b in
+    let m = b * 2 ^ z in
     sqrt-of-value x b p (subst (λ (y : Float). HasValue y false b (2 ^ 1074)) (ofBits-toBits binary64 x f) (value-low b l))
     ∙ ap rootOf
-    (ap (λ (y : ℕ). b * 2 ^ y) (sum z (k .most)) ∙ ap (λ (y : ℕ). b * y) (pow-add 2 z (1024 - z + 52)) ∙ sym (mul-assoc b (2 ^ z) (2 ^ (1024 - z + 52))) ∙ ap (λ (y : ℕ). y * 2 ^ (1024 - z + 52)) (sym (k .whole)))
+    (ap (λ (y : ℕ). b * 2 ^ y) (sum z (k .most)) ∙ ap (λ (y : ℕ). b * y) (pow-add 2 z (1024 - z + 52)) ∙ sym (mul-assoc b (2 ^ z) (2 ^ (1024 - z + 52)))
+    ∙ handed-is ((1023 - z) * 2 ^ 52 + m % 2 ^ 64) m (1024 - z) (omega (arith, k .most)) (k .low) (k .high) (placed z m (m % 2 ^ 64) (k .whole) (k .most)))
   where
     sum : (z : ℕ) → z ≤ 52 → 1076 ≡ z + (1024 - z + 52)
     sum z h = omega arith
+
+    placed : (z m n : ℕ) → n ≡ m → z ≤ 52 → (1023 - z) * 2 ^ 52 + n ≡ (1024 - z - 1) * 2 ^ 52 + m
+    placed z m n e h = omega arith
 
 -- ---- at zero, and where there is no root
 -- the two sides of a comparison with 0
@@ -280,10 +291,3 @@ no-root (fin true zero e) h k = absurd (true≢false (sym (zero-level true e ref
 no-root (fin false zero e) h k = absurd (true≢false (sym (zero-level false e refl) ∙ k))
 no-root (fin true (suc m) e) h k = refl
 no-root (fin false (suc m) e) h k = absurd (true≢false (sym (above-zero m e) ∙ h))
-
--- only a NaN differs from itself
-pub self-no-nan : (x : Float) → eq x x ≡ true → T (not (isNan x))
-unfolding eq isNan
-self-no-nan nan h = absurd (false≢true h)
-self-no-nan (inf s) h = tt
-self-no-nan (fin s m e) h = tt

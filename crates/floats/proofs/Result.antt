@@ -1,23 +1,21 @@
 -- From the whole number q nearest to √M, for M of 105 or 106 binary digits, to the binary64 nearest to √(M * 4 ^ (i + 1)) units: its bits are i * 2 ^ 52 + q.
 -- Assumes nothing.
 use mathlib.Core.Path.{_≡_, refl, sym, ap, _∙_, subst}
-use Prim.Native.Nat.{ℕ, zero, suc, _+_, _-_, _*_, _/_, _%_, _^_, _≤_, _<_}
-use native.Mathlib.Nat.{le-refl, le-trans, le-of-eq, le-of-lt, lt-of-lt-of-le, lt-of-le-of-lt, le-antisymm, le-of-suc-le-suc, lt-of-not-le, not-le-of-lt, lt-irrefl, zero-add, mul-one, mul-comm, mul-assoc, mul-left-comm, mul-right-comm, mul-mul-mul-comm, mul-pos, mul-le-mul, mul-le-mul-left, mul-le-mul-right, mul-lt-mul-of-pos-right, mul-div-cancel, le-div-iff-mul-le, div-lt-iff-lt-mul, pow-succ', suc-mul, mul-suc, le-dest, mul-add, add-mul, one-mul, two-mul}
+use Prim.Native.Nat.{ℕ, zero, suc, _+_, _-_, _*_, _/_, _^_, _≤_, _<_}
+use native.Mathlib.Nat.{le-trans, le-of-eq, lt-of-lt-of-le, lt-of-le-of-lt, le-antisymm, le-of-suc-le-suc, lt-of-not-le, not-le-of-lt, zero-add, mul-one, mul-comm, mul-assoc, mul-left-comm, mul-mul-mul-comm, mul-pos, mul-le-mul-right, mul-lt-mul-of-pos-right, mul-div-cancel, le-div-iff-mul-le, div-lt-iff-lt-mul, pow-succ', suc-mul, mul-suc, le-dest, mul-add, add-mul, one-mul, two-mul}
 use native.Mathlib.Omega.{arith}
-use mathlib.Core.Bool.{Bool, true, false, not, cond}
-use lib.Dec.{T, lit<, lit≤}
-use lib.Pow.{pow-add, pow-pos, pow-mono, pow-lt, shl-lt}
-use lib.Ieee.{Float, nan, inf, fin, Format, binary64, prec, emax, low, up, down, size, round, toBits, ofBits}
+use mathlib.Core.Bool.{Bool, false, cond}
+use lib.Pow.{pow-add, pow-pos, pow-mono, shl-lt}
+use lib.Ieee.{Float, nan, inf, fin, binary64, low, up, down, size, round, toBits, ofBits}
 use lib.Ieee.Digits.{size-lt, size-le}
 use lib.Ieee.Fits.{down-pos, round-fits}
 use lib.Ieee.Bits.{ofBits-toBits}
 use lib.Ieee.Exact.{HasValue}
 use lib.Ieee.Nearest.{closest}
-use lib.Ieee.Order.{drop, kept}
-use lib.Ieee.Scale.{grid, overflow, round-val}
+use lib.Ieee.Scale.{grid, round-val}
 use Rattle.floats.specs.Steps.{NearRoot}
-use Rattle.floats.specs.Root.{rootOf, wholeRoot}
-use Rattle.floats.proofs.Closest.{closest-is, twice, twice-above, twice-below, twice-reaches}
+use Rattle.floats.specs.Root.{rootOf, twiceRoot}
+use Rattle.floats.proofs.Closest.{closest-is, twice-above, twice-below, twice-reaches}
 
 -- ---- digits
 pub size-gt : (n j : ℕ) → 2 ^ j ≤ n → j < size n
@@ -42,7 +40,7 @@ fields q i n e z =
     let k : size n - 53 ≡ i = omega arith in
     ap (λ (x : ℕ). x * 2 ^ 52 + n / 2 ^ x) k ∙ ap (λ (x : ℕ). i * 2 ^ 52 + x) (ap (λ (x : ℕ). x / 2 ^ i) e ∙ mul-div-cancel q (pow-pos i))
 
-pub bits-of-value : (x : Float) (i q : ℕ) → 2 ^ 52 ≤ q → q < 2 ^ 53 → HasValue x false (q * 2 ^ i) (2 ^ 1074) → toBits binary64 x ≡ i * 2 ^ 52 + q
+bits-of-value : (x : Float) (i q : ℕ) → 2 ^ 52 ≤ q → q < 2 ^ 53 → HasValue x false (q * 2 ^ i) (2 ^ 1074) → toBits binary64 x ≡ i * 2 ^ 52 + q
 unfolding toBits
 bits-of-value nan i q lo hi v = absurd v
 bits-of-value (inf s) i q lo hi v = absurd v
@@ -55,28 +53,34 @@ bits-of-value (fin s m e) i q lo hi v =
     ∙ fields q i n is z
 
 -- ---- what `round` makes of a / (4 * L), in units of 1 / L, with h for the power of two that is dropped
+pub spread : (q h L : ℕ) → q * (4 * L * h) ≡ 4 * (q * h * L)
+spread q h L = simp (mul-assoc, mul-comm, mul-left-comm)
+
+pub spread-one : (h L : ℕ) → 4 * L * h ≡ 4 * (h * L)
+spread-one h L = simp (mul-assoc, mul-comm)
+
 scaled-low : (a q h L : ℕ) → 0 < L → 4 * (q * h) < a + 2 * h → 2 * (q * (4 * L * h)) < 2 * (a * L) + 4 * L * h
 scaled-low a q h L p k =
     let x : 4 * (q * h) * L < (a + 2 * h) * L = mul-lt-mul-of-pos-right k p in
-    let e1 : q * (4 * L * h) ≡ 4 * (q * h * L) = simp (mul-assoc, mul-comm, mul-left-comm) in
+    let e1 : q * (4 * L * h) ≡ 4 * (q * h * L) = spread q h L in
     let e2 : 4 * (q * h) * L ≡ 4 * (q * h * L) = mul-assoc 4 (q * h) L in
     let e3 : (a + 2 * h) * L ≡ a * L + 2 * (h * L) = add-mul a (2 * h) L ∙ ap (λ (z : ℕ). a * L + z) (mul-assoc 2 h L) in
-    let e4 : 4 * L * h ≡ 4 * (h * L) = simp (mul-assoc, mul-comm, mul-left-comm) in
+    let e4 : 4 * L * h ≡ 4 * (h * L) = spread-one h L in
     omega arith
 
 scaled-high : (a q h L : ℕ) → 0 < L → a < 4 * (q * h) + 2 * h → 2 * (a * L) < 2 * (q * (4 * L * h)) + 4 * L * h
 scaled-high a q h L p k =
     let x : a * L < (4 * (q * h) + 2 * h) * L = mul-lt-mul-of-pos-right k p in
-    let e1 : q * (4 * L * h) ≡ 4 * (q * h * L) = simp (mul-assoc, mul-comm, mul-left-comm) in
+    let e1 : q * (4 * L * h) ≡ 4 * (q * h * L) = spread q h L in
     let e2 : (4 * (q * h) + 2 * h) * L ≡ 4 * (q * h * L) + 2 * (h * L) = add-mul (4 * (q * h)) (2 * h) L ∙ ap (λ (z : ℕ). z + 2 * h * L) (mul-assoc 4 (q * h) L) ∙ ap (λ (z : ℕ). 4 * (q * h * L) + z) (mul-assoc 2 h L) in
-    let e4 : 4 * L * h ≡ 4 * (h * L) = simp (mul-assoc, mul-comm, mul-left-comm) in
+    let e4 : 4 * L * h ≡ 4 * (h * L) = spread-one h L in
     omega arith
 
 quarter-low : (p a L : ℕ) → 4 * p ≤ a → p * (4 * L) ≤ a * L
-quarter-low p a L h = le-trans (le-of-eq (simp (mul-assoc, mul-comm, mul-left-comm))) (mul-le-mul-right L h)
+quarter-low p a L h = le-trans (le-of-eq (simp (mul-assoc, mul-left-comm))) (mul-le-mul-right L h)
 
 quarter-high : (p a L : ℕ) → 0 < L → a < 4 * p → a * L < p * (4 * L)
-quarter-high p a L k h = lt-of-lt-of-le (mul-lt-mul-of-pos-right h k) (le-of-eq (simp (mul-assoc, mul-comm, mul-left-comm)))
+quarter-high p a L k h = lt-of-lt-of-le (mul-lt-mul-of-pos-right h k) (le-of-eq (simp (mul-assoc, mul-left-comm)))
 
 unit-size : (a i : ℕ) → 4 * 2 ^ (52 + i) ≤ a → a < 4 * 2 ^ suc (52 + i) → size (a * 2 ^ 1074 / 2 ^ 1076) ≡ suc (52 + i)
 unit-size a i lo hi =
@@ -123,11 +127,11 @@ odd-above c M i h =
     (lt-of-lt-of-le (mul-lt-mul-of-pos-right h (mul-pos (pow-pos i) (pow-pos i))) (le-of-eq (sym (square c (2 ^ i)))))
 
 -- (2 * q + 1) ^ 2
-odd-square : (q : ℕ) → (2 * q + 1) * (2 * q + 1) ≡ 4 * (q * q) + 4 * q + 1
+pub odd-square : (q : ℕ) → (2 * q + 1) * (2 * q + 1) ≡ 4 * (q * q) + 4 * q + 1
 odd-square q = simp (two-mul, mul-add, add-mul, mul-one, one-mul) (omega arith)
 
 -- ---- q lies in its 53 digits
-pub q-low : (M q : ℕ) → 2 ^ 104 ≤ M → M ≤ q * q + q → 2 ^ 52 ≤ q
+q-low : (M q : ℕ) → 2 ^ 104 ≤ M → M ≤ q * q + q → 2 ^ 52 ≤ q
 q-low M q lo high = le-of-suc-le-suc (lt-of-not-le (λ (g : suc q ≤ 2 ^ 52). clash g (mul-le-mul-right q g)))
   where
     clash : suc q ≤ 2 ^ 52 → suc q * q ≤ 2 ^ 52 * q → ⊥
@@ -162,15 +166,18 @@ odd-high M q h =
     omega arith
 
 -- ---- as bounds on what is rounded
+pub odd-times : (q h : ℕ) → (2 * q + 1) * h ≡ 2 * (q * h) + h
+odd-times q h = add-mul (2 * q) 1 h ∙ ap (λ (x : ℕ). x + 1 * h) (mul-assoc 2 q h) ∙ ap (λ (x : ℕ). 2 * (q * h) + x) (one-mul h)
+
 lower : (a p h : ℕ) → 2 * ((2 * p + 1) * h) < a → 4 * (suc p * h) < a + 2 * h
 lower a p h k =
-    let e : (2 * p + 1) * h ≡ 2 * (p * h) + h = add-mul (2 * p) 1 h ∙ ap (λ (x : ℕ). x + 1 * h) (mul-assoc 2 p h) ∙ ap (λ (x : ℕ). 2 * (p * h) + x) (one-mul h) in
+    let e : (2 * p + 1) * h ≡ 2 * (p * h) + h = odd-times p h in
     let f : suc p * h ≡ p * h + h = suc-mul p h in
     omega arith
 
 upper : (a q h : ℕ) → a < 2 * ((2 * q + 1) * h) → a < 4 * (q * h) + 2 * h
 upper a q h k =
-    let e : (2 * q + 1) * h ≡ 2 * (q * h) + h = add-mul (2 * q) 1 h ∙ ap (λ (x : ℕ). x + 1 * h) (mul-assoc 2 q h) ∙ ap (λ (x : ℕ). 2 * (q * h) + x) (one-mul h) in
+    let e : (2 * q + 1) * h ≡ 2 * (q * h) + h = odd-times q h in
     omega arith
 
 first-digit : (i : ℕ) → 2 * (2 ^ 52 * 2 ^ suc i) ≡ 4 * 2 ^ (52 + i)
@@ -189,7 +196,7 @@ past-digit i =
 room : (M : ℕ) → M + 2 ^ 53 ≤ 2 ^ 106 → M < 2 ^ 53 * 2 ^ 53
 room M h = omega arith
 
-root-is : (n : ℕ) → rootOf n ≡ round binary64 false (twice n) (2 ^ 1076)
+root-is : (n : ℕ) → rootOf n ≡ round binary64 false (twiceRoot n) (2 ^ 1076)
 unfolding rootOf
 root-is n = refl
 
@@ -201,7 +208,7 @@ root-bits M i zero lo hi top near = absurd (none M lo (near .high))
 root-bits M i (suc p) lo hi top near =
     let q = suc p in
     let n = wide M i in
-    let a = twice n in
+    let a = twiceRoot n in
     let q-lo : 2 ^ 52 ≤ q = q-low M q lo (near .high) in
     let q-hi : q < 2 ^ 53 = q-high M q hi (near .low) in
     let g : grid binary64 a (2 ^ 1076) ≡ q * 2 ^ i =

@@ -1,11 +1,11 @@
 -- `wholeRoot n` is the largest number whose square is at most n. Assumes nothing.
 use mathlib.Core.Path.{_≡_, refl, sym, ap, _∙_, subst}
-use Prim.Native.Nat.{ℕ, zero, suc, _+_, _-_, _*_, _/_, _%_, _^_, _≤_, _<_}
-use native.Mathlib.Nat.{le-trans, le-of-eq, lt-of-lt-of-le, lt-of-le-of-lt, lt-of-not-le, not-le-of-lt, le-of-suc-le-suc, mul-one, one-mul, mul-comm, mul-assoc, mul-left-comm, mul-add, add-mul, add-assoc, add-comm, add-left-comm, mul-le-mul, mul-le-mul-left, zero-mul, pow-succ', pow-suc, two-mul}
+use Prim.Native.Nat.{ℕ, zero, suc, _+_, _*_, _/_, _^_, _≤_, _<_}
+use native.Mathlib.Nat.{le-trans, lt-of-not-le, not-le-of-lt, le-of-suc-le-suc, mul-one, one-mul, mul-add, add-mul, mul-le-mul, mul-le-mul-left, pow-succ', two-mul}
 use native.Mathlib.Omega.{arith}
 use mathlib.Core.Bool.{Bool, true, false, not, cond}
 use lib.Dec.{T, leb, leb→le, nleb→lt}
-use lib.Pow.{pow-add, pow-pos, pow-mono}
+use lib.Pow.{pow-pos}
 use lib.Ieee.{size}
 use lib.Ieee.Digits.{size-lt}
 use Rattle.floats.specs.Root.{rootIn, wholeRoot}
@@ -13,7 +13,7 @@ use Rattle.floats.specs.Root.{rootIn, wholeRoot}
 pub sq-suc : (a : ℕ) → (a + 1) * (a + 1) ≡ a * a + 2 * a + 1
 sq-suc a = simp (mul-add, add-mul, mul-one, one-mul) (omega arith)
 
-pub sq-two : (a : ℕ) → 2 * a * (2 * a) ≡ 4 * (a * a)
+sq-two : (a : ℕ) → 2 * a * (2 * a) ≡ 4 * (a * a)
 sq-two a = simp (two-mul, mul-add, add-mul) (omega arith)
 
 pub sq-mono : (a b : ℕ) → a ≤ b → a * a ≤ b * b

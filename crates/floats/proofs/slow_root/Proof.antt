@@ -1,14 +1,11 @@
--- `root::slow_root` meets its contract. The loop's invariant is `Inv` of `proofs/Digits.antt`, and its measure is the number of turns to come. Assumes nothing.
+-- `floats::slow_root` meets its contract. The loop's invariant is `Inv` of `proofs/Digits.antt`, and its measure is the number of turns to come. Assumes nothing.
 use mathlib.Core.Path.{_≡_, subst}
 use Prim.Native.Nat.{ℕ, _+_, _-_, _*_, _/_, _%_, _^_}
 use native.Mathlib.Omega.{arith}
 use mathlib.Core.Logic.{⊎-elim}
-use Rattle.floats.specs.Steps.{NearRoot}
 use Rattle.floats.proofs.Digits.{Inv, start, turn-odd, turn-even, end-up, end-down}
 use Rattle.floats.proofs.slow_root.Statement.{statement}
 use Rattle.floats.proofs.slow_root.Tie as tie
-use Rattle.floats.proofs.slow_root.Reads as reads
-use Rattle.floats.proofs.slow_root.Lts as lts
 
 abbrev Inv-loop : tie.InvT-loop
 Inv-loop w r₀ d₀ s₀ k₀ r d s k = Inv w r d s k
@@ -19,51 +16,39 @@ abbrev μ-loop : tie.MeasureT-loop
 moved : (w r r' d d' s k : ℕ) → r ≡ r' → d ≡ d' → Inv w r d s k → Inv w r' d' s k
 moved w r r' d d' s k p q h = subst (λ (x : ℕ). Inv w r' x s k) q (subst (λ (x : ℕ). Inv w x d s k) p h)
 
--- src/lib.rt:24:5
 loop-holds : tie.Need-loop-holds Inv-loop μ-loop
 loop-holds c = start (c .args .w) (c .pre .1)
 
--- src/lib.rt:25:17
 mul-e : tie.Need-mul-e Inv-loop μ-loop
 mul-e c = omega arith
 
--- src/lib.rt:25:17
 add-e : tie.Need-add-e Inv-loop μ-loop
 add-e c = omega arith
 
--- src/lib.rt:26:17
 mul-t : tie.Need-mul-t Inv-loop μ-loop
 mul-t c = omega arith
 
--- src/lib.rt:26:17
 add-t : tie.Need-add-t Inv-loop μ-loop
 add-t c = omega arith
 
--- src/lib.rt:27:13
 mul-s : tie.Need-mul-s Inv-loop μ-loop
 mul-s c = omega arith
 
--- src/lib.rt:30:17
 mul-r : tie.Need-mul-r Inv-loop μ-loop
 mul-r c = omega arith
 
--- src/lib.rt:30:17
 add-r : tie.Need-add-r Inv-loop μ-loop
 add-r c = omega arith
 
--- src/lib.rt:33:17
 mul-r-2 : tie.Need-mul-r-2 Inv-loop μ-loop
 mul-r-2 c = omega arith
 
--- src/lib.rt:35:9
 sub-k : tie.Need-sub-k Inv-loop μ-loop
 sub-k c = omega arith
 
--- src/lib.rt:24:5
 loop-less : tie.Need-loop-less Inv-loop μ-loop
 loop-less c = omega arith
 
--- src/lib.rt:24:5
 loop-again : tie.Need-loop-again Inv-loop μ-loop
 loop-again c =
     let at-loop = c .before .before in
@@ -75,17 +60,14 @@ loop-again c =
     (λ (x : _). moved w (i .r * 2) (c .if1 .r) e (c .if1 .d) (i .s % 2 ^ 52 * 4) (i .k - 1) (omega arith) (omega arith) (turn-even w (i .r) (i .d) (i .s) (i .k) (c .before .loop-test .taken) (i .inv) (omega arith)))
     (c .if1 .came)
 
--- src/lib.rt:37:16
 add-result : tie.Need-add-result Inv-loop μ-loop
 add-result c = omega arith
 
--- src/lib.rt:16:1
 returns : tie.Need-returns Inv-loop μ-loop
 returns c =
     let i = c .before .before .loop in
     end-up (c .before .before .before .args .w) (i .r) (i .d) (i .s) (i .k) (c .before .loop-test .left) (i .inv) (c .if2 .taken)
 
--- src/lib.rt:16:1
 returns-2 : tie.Need-returns-2 Inv-loop μ-loop
 returns-2 c =
     let i = c .before .before .loop in

@@ -1,29 +1,39 @@
--- `sqrtOf y` is the binary64 nearest to √y, for y finite and above zero: no other value z above zero is nearer. Said without real numbers:
--- a value x that fits is `steps x` of the smallest value, 2 ^ -1074, and √y is √(area y) of half of that. The middle of r = `sqrtOf y` and z is `steps r + steps z` halves.
--- Where z is above r, √y is at most that middle, and where z is below r, at least. Assumes nothing.
+-- `sqrtOf y` is the binary64 nearest to √y, for y finite and above zero (`sqrt-nearest`): it lies nearer than every other value above zero, and no tie occurs.
+-- Assumes nothing.
 use mathlib.Core.Path.{_≡_, refl, sym, ap, _∙_, subst}
 use mathlib.Core.Logic.{_⊎_, inl, inr}
-use Prim.Native.Nat.{ℕ, zero, suc, _+_, _-_, _*_, _/_, _%_, _^_, _≤_, _<_, compare, Ordering, Ordering·lt, Ordering·eq, Ordering·gt}
-use native.Mathlib.Nat.{le-refl, le-trans, le-of-eq, le-of-lt, lt-of-lt-of-le, lt-of-le-of-lt, lt-irrefl, eq-or-lt-of-le, le-antisymm, mul-one, one-mul, mul-comm, mul-assoc, mul-left-comm, mul-right-comm, mul-pos, mul-le-mul-left, mul-le-mul-right, mul-lt-mul-of-pos-right, le-of-mul-le-mul-right, lt-of-mul-lt-mul-right, le-div-iff-mul-le, div-mul-le-self, mul-div-cancel, eq-of-mul-eq-mul-right, div-add-mod', mod-lt, add-mul, suc-mul, lt-of-not-le, not-le-of-lt, le-of-suc-le-suc}
+use Prim.Native.Nat.{ℕ, zero, suc, _+_, _-_, _*_, _/_, _%_, _^_, _≤_, _<_, compare, Ordering, Ordering·lt, Ordering·eq, Ordering·gt, zero-le}
+use native.Mathlib.Nat.{le-trans, le-of-eq, le-of-lt, lt-of-lt-of-le, lt-of-le-of-lt, lt-irrefl, eq-or-lt-of-le, mul-one, mul-assoc, mul-left-comm, mul-right-comm, mul-mul-mul-comm, mul-pos, mul-le-mul-left, mul-le-mul-right, mul-lt-mul-of-pos-right, le-of-mul-le-mul-right, lt-of-mul-lt-mul-right, le-div-iff-mul-le, div-mul-le-self, mul-div-cancel, div-add-mod', mod-lt, add-mul, suc-mul, pow-succ', lt-of-not-le, not-le-of-lt, le-of-suc-le-suc}
 use native.Mathlib.Omega.{arith}
 use native.Mathlib.Decide.{decLe}
-use mathlib.Core.Bool.{Bool, true, false, not, cond}
+use mathlib.Core.Bool.{false}
 use lib.Dec.{T, lit≤}
-use lib.Pow.{pow-add, pow-pos, pow-mono, pow-lt, shl-lt}
+use lib.Arith.{lt-of-le-ne}
+use lib.Pow.{pow-add, pow-pos, pow-mono, shl-lt}
 use lib.Ieee.{Float, binary64, size, round, nearest, fits}
-use lib.Ieee.Digits.{size-lt, size-reaches}
-use lib.Ieee.Fits.{round-fits, nearest-le}
+use lib.Ieee.Digits.{size-reaches}
 use lib.Ieee.Exact.{HasValue}
-use lib.Ieee.Nearest.{closest, nearest-ge}
-use lib.Ieee.Scale.{grid, round-val, round-under}
+use lib.Ieee.Nearest.{closest}
+use lib.Ieee.Scale.{round-val, round-under}
 use lib.Ieee.Positive.{num, den, den-pos, positive, positive-finite, value→cross}
-use Rattle.floats.specs.Root.{sqrtOf}
-use Rattle.floats.proofs.Closest.{Cmp, cmp, twice, twice-above, twice-below, twice-reaches}
-use Rattle.floats.proofs.Result.{size-gt}
+use Rattle.floats.specs.Root.{sqrtOf, twiceRoot}
+use Rattle.floats.proofs.Closest.{Cmp, cmp, twice-above, twice-below, twice-reaches}
+use Rattle.floats.proofs.Whole.{sq-mono}
+use Rattle.floats.proofs.Result.{size-gt, spread, spread-one, odd-square, odd-times}
 use Rattle.floats.proofs.Laws.{area, sqrt-is, OnGrid, on-grid, area-low, sqrt-positive}
 
+-- Without real numbers: a value x that fits is `steps x` of the smallest value, 2 ^ -1074, and √y is √(area y) halves of a step, since area y is y * 2 ^ 2150.
+-- The middle of r and z is `steps r + steps z` halves. So r is nearer to √y than z where √y lies on r's side of that middle: below it for a z above r, and
+-- above it for a z below r. (Zero and the values below it lie further away still than the smallest value.)
 abbrev pub steps : Float → ℕ
 steps x = num x * 2 ^ 1074 / den x
+
+abbrev pub middle : Float → Float → ℕ
+middle r z = steps r + steps z
+
+pub record Nearest (y r : Float) : Type 0 where
+  pub above : (z : Float) → T (positive z) → T (fits binary64 z) → steps r < steps z → area y < middle r z * middle r z
+  pub below : (z : Float) → T (positive z) → T (fits binary64 z) → steps z < steps r → middle r z * middle r z < area y
 
 steps-is : (x : Float) (g : OnGrid x) → steps x ≡ g .m * 2 ^ g .j
 steps-is x g = ap (λ (z : ℕ). z / den x) (g .is) ∙ mul-div-cancel (g .m * 2 ^ g .j) (den-pos x)
@@ -72,28 +82,16 @@ keeps a = closest (a * 2 ^ 1074) (2 ^ 1076 * 2 ^ drops a)
 lean : (a q h L : ℕ) → 0 < L → 2 * (q * (4 * L * h)) ≤ 2 * (a * L) + 4 * L * h → 4 * (q * h) ≤ a + 2 * h
 lean a q h L p k =
     le-of-mul-le-mul-right (scale (a * L) (h * L) (q * h * L) (4 * (q * h) * L) ((a + 2 * h) * L) (mul-assoc 4 (q * h) L) (add-mul a (2 * h) L ∙ ap (λ (z : ℕ). a * L + z) (mul-assoc 2 h L))
-    (subst (λ (z : ℕ). 2 * z ≤ 2 * (a * L) + 4 * (h * L)) e1 (subst (λ (z : ℕ). 2 * (q * (4 * L * h)) ≤ 2 * (a * L) + z) e4 k))) p
+    (subst (λ (z : ℕ). 2 * z ≤ 2 * (a * L) + 4 * (h * L)) (spread q h L) (subst (λ (z : ℕ). 2 * (q * (4 * L * h)) ≤ 2 * (a * L) + z) (spread-one h L) k))) p
   where
-    e1 : q * (4 * L * h) ≡ 4 * (q * h * L)
-    e1 = simp (mul-assoc, mul-comm, mul-left-comm)
-
-    e4 : 4 * L * h ≡ 4 * (h * L)
-    e4 = simp (mul-assoc, mul-comm, mul-left-comm)
-
     scale : (aL hL qhL l r : ℕ) → l ≡ 4 * qhL → r ≡ aL + 2 * hL → 2 * (4 * qhL) ≤ 2 * aL + 4 * hL → l ≤ r
     scale aL hL qhL l r e f k = omega arith
 
 reach : (a q h L : ℕ) → 0 < L → 2 * (a * L) ≤ 2 * (q * (4 * L * h)) + 4 * L * h → a ≤ 4 * (q * h) + 2 * h
 reach a q h L p k =
     le-of-mul-le-mul-right (scale (a * L) (h * L) (q * h * L) ((4 * (q * h) + 2 * h) * L) (add-mul (4 * (q * h)) (2 * h) L ∙ ap (λ (z : ℕ). z + 2 * h * L) (mul-assoc 4 (q * h) L) ∙ ap (λ (z : ℕ). 4 * (q * h * L) + z) (mul-assoc 2 h L))
-    (subst (λ (z : ℕ). 2 * (a * L) ≤ 2 * z + 4 * (h * L)) e1 (subst (λ (z : ℕ). 2 * (a * L) ≤ 2 * (q * (4 * L * h)) + z) e4 k))) p
+    (subst (λ (z : ℕ). 2 * (a * L) ≤ 2 * z + 4 * (h * L)) (spread q h L) (subst (λ (z : ℕ). 2 * (a * L) ≤ 2 * (q * (4 * L * h)) + z) (spread-one h L) k))) p
   where
-    e1 : q * (4 * L * h) ≡ 4 * (q * h * L)
-    e1 = simp (mul-assoc, mul-comm, mul-left-comm)
-
-    e4 : 4 * L * h ≡ 4 * (h * L)
-    e4 = simp (mul-assoc, mul-comm, mul-left-comm)
-
     scale : (aL hL qhL r : ℕ) → r ≡ 4 * qhL + 2 * hL → 2 * aL ≤ 2 * (4 * qhL) + 4 * hL → aL ≤ r
     scale aL hL qhL r f k = omega arith
 
@@ -102,10 +100,11 @@ record Rounded (n G : ℕ) : Type 0 where
   i : ℕ
   q : ℕ
   is : G ≡ q * 2 ^ i
+  digits : 2 ^ 52 ≤ q
   normal : 2 ^ 52 * 2 ^ i ≤ G
-  first : 4 * (2 ^ 52 * 2 ^ i) ≤ twice n
-  under : 4 * G ≤ twice n + 2 * 2 ^ i
-  over : twice n ≤ 4 * G + 2 * 2 ^ i
+  first : 4 * (2 ^ 52 * 2 ^ i) ≤ twiceRoot n
+  under : 4 * G ≤ twiceRoot n + 2 * 2 ^ i
+  over : twiceRoot n ≤ 4 * G + 2 * 2 ^ i
 
 -- the digits of a / 4
 first-of : (a i : ℕ) → suc (52 + i) ≡ size (a * 2 ^ 1074 / 2 ^ 1076) → 4 * (2 ^ 52 * 2 ^ i) ≤ a
@@ -116,12 +115,12 @@ first-of a i e =
     (pow-pos 1074)
   where
     regroup : (x y L : ℕ) → 4 * (x * y) * L ≡ x * y * (4 * L)
-    regroup x y L = simp (mul-assoc, mul-comm, mul-left-comm)
+    regroup x y L = simp (mul-assoc, mul-left-comm)
 
 rounded : (x : Float) → T (positive x) → T (fits binary64 x) → Rounded (area x) (steps (sqrtOf x))
 rounded x p f =
     let n = area x in
-    let a = twice n in
+    let a = twiceRoot n in
     let R = round binary64 false a (2 ^ 1076) in
     let A = a * 2 ^ 1074 in
     let i = drops a in
@@ -136,11 +135,13 @@ rounded x p f =
     let c = closest-near A (2 ^ 1076 * 2 ^ i) (mul-pos (pow-pos 1076) (pow-pos i)) in
     let un : 4 * (q * 2 ^ i) ≤ a + 2 * 2 ^ i = lean a q (2 ^ i) (2 ^ 1074) (pow-pos 1074) (c .0) in
     let ov : a ≤ 4 * (q * 2 ^ i) + 2 * 2 ^ i = reach a q (2 ^ i) (2 ^ 1074) (pow-pos 1074) (c .1) in
+    let big-q : 2 ^ 52 ≤ q = half-up (2 ^ i) (pow-pos i) q (le-trans fd ov) in
     record {
       i = i;
       q = q;
       is = G-is;
-      normal = subst (λ (z : ℕ). 2 ^ 52 * 2 ^ i ≤ z) (sym G-is) (mul-le-mul-right (2 ^ i) (half-up (2 ^ i) (pow-pos i) q (le-trans fd ov)));
+      digits = big-q;
+      normal = subst (λ (z : ℕ). 2 ^ 52 * 2 ^ i ≤ z) (sym G-is) (mul-le-mul-right (2 ^ i) big-q);
       first = fd;
       under = subst (λ (z : ℕ). 4 * z ≤ a + 2 * 2 ^ i) (sym G-is) un;
       over = subst (λ (z : ℕ). a ≤ 4 * z + 2 * 2 ^ i) (sym G-is) ov;
@@ -185,16 +186,65 @@ multiple z g i h =
 apart : (s t h : ℕ) → s * h < t * h → s * h + h ≤ t * h
 apart s t h k = le-trans (le-of-eq (sym (suc-mul s h))) (mul-le-mul-right h (lt-of-mul-lt-mul-right h k))
 
--- ---- from `twice n` to n
-at-most : (n c : ℕ) → twice n ≤ 2 * c → n ≤ c * c
+-- ---- from `twiceRoot n` to n
+at-most : (n c : ℕ) → twiceRoot n ≤ 2 * c → n ≤ c * c
 at-most n c h = le-of-suc-le-suc (lt-of-not-le (λ (k : suc (c * c) ≤ n). not-le-of-lt (twice-above n c k) h))
 
-at-least : (n c : ℕ) → 2 * c ≤ twice n → c * c ≤ n
+at-least : (n c : ℕ) → 2 * c ≤ twiceRoot n → c * c ≤ n
 at-least n c h = le-of-suc-le-suc (lt-of-not-le (λ (k : suc n ≤ c * c). not-le-of-lt (twice-below n c k) h))
 
-pub nearest-above : (y z : Float) → T (positive y) → T (fits binary64 y) → T (positive z) → T (fits binary64 z)
-    → steps (sqrtOf y) < steps z → area y ≤ (steps (sqrtOf y) + steps z) * (steps (sqrtOf y) + steps z)
-nearest-above y z p f q k h =
+-- ---- no tie: the middle of two neighbours has 54 digits, the last of them odd, and so its square more than 53
+-- an odd number with zeros after it is no multiple of a smaller number with zeros after it
+odd-part : (a b s t : ℕ) → a % 2 ≡ 1 → a * 2 ^ s ≡ b * 2 ^ t → a ≤ b
+odd-part a b s zero o e = le-trans (le-of-eq (sym (mul-one a))) (le-trans (mul-le-mul-left a (pow-pos s)) (le-of-eq (e ∙ mul-one b)))
+odd-part a b zero (suc t) o e = absurd (even a (b * 2 ^ t) o (sym (mul-one a) ∙ e ∙ ap (λ (x : ℕ). b * x) (pow-succ' 2 t) ∙ mul-left-comm b 2 (2 ^ t)))
+  where
+    even : (a x : ℕ) → a % 2 ≡ 1 → a ≡ 2 * x → ⊥
+    even a x o e = omega arith
+odd-part a b (suc s) (suc t) o e = odd-part a b s t o (halve (a * 2 ^ s) (b * 2 ^ t) (twofold a s ∙ e ∙ sym (twofold b t)))
+  where
+    twofold : (c k : ℕ) → 2 * (c * 2 ^ k) ≡ c * 2 ^ suc k
+    twofold c k = mul-left-comm 2 c (2 ^ k) ∙ ap (λ (x : ℕ). c * x) (sym (pow-succ' 2 k))
+
+    halve : (x y : ℕ) → 2 * x ≡ 2 * y → x ≡ y
+    halve x y e = omega arith
+
+area-is : (y : Float) (g : OnGrid y) → area y ≡ g .m * 2 ^ (g .j + 1076)
+area-is y g =
+    ap (λ (z : ℕ). z / den y) (sym (mul-assoc (num y) (2 ^ 1074) (2 ^ 1076)) ∙ ap (λ (z : ℕ). z * 2 ^ 1076) (g .is) ∙ mul-right-comm (g .m * 2 ^ g .j) (den y) (2 ^ 1076))
+    ∙ mul-div-cancel (g .m * 2 ^ g .j * 2 ^ 1076) (den-pos y)
+    ∙ mul-assoc (g .m) (2 ^ g .j) (2 ^ 1076)
+    ∙ ap (λ (z : ℕ). g .m * z) (sym (pow-add 2 (g .j) 1076))
+
+no-tie : (y : Float) → OnGrid y → (p i : ℕ) → 2 ^ 52 ≤ suc p → (2 * p + 1) * 2 ^ i * ((2 * p + 1) * 2 ^ i) ≡ area y → ⊥
+no-tie y g p i l e =
+    let c = 2 * p + 1 in
+    let o : c * c % 2 ≡ 1 = odd (c * c) (p * p) p (odd-square p) in
+    let h : c * c * 2 ^ (i + i) ≡ g .m * 2 ^ (g .j + 1076) = ap (λ (z : ℕ). c * c * z) (pow-add 2 i i) ∙ sym (mul-mul-mul-comm c (2 ^ i) c (2 ^ i)) ∙ e ∙ area-is y g in
+    lt-irrefl (2 ^ 53) (lt-of-le-of-lt (le-trans (lit≤ tt) (sq-mono (2 ^ 53 - 1) c (far p l))) (lt-of-le-of-lt (odd-part (c * c) (g .m) (i + i) (g .j + 1076) o h) (g .small)))
+  where
+    odd : (s x p : ℕ) → s ≡ 4 * x + 4 * p + 1 → s % 2 ≡ 1
+    odd s x p e = omega arith
+
+    far : (p : ℕ) → 2 ^ 52 ≤ suc p → 2 ^ 53 - 1 ≤ 2 * p + 1
+    far p l = omega arith
+
+-- the middle below q * 2 ^ i and the one above it
+half-below : (p h : ℕ) → 2 * (suc p * h) ≡ (2 * p + 1) * h + h
+half-below p h = ap (λ (z : ℕ). 2 * z) (suc-mul p h) ∙ sums (p * h) h ((2 * p + 1) * h) (odd-times p h)
+  where
+    sums : (x h c : ℕ) → c ≡ 2 * x + h → 2 * (x + h) ≡ c + h
+    sums x h c e = omega arith
+
+half-above : (q h : ℕ) → 2 * (q * h) + h ≡ (2 * q + 1) * h
+half-above q h = sym (odd-times q h)
+
+sq-strict : (a b : ℕ) → a < b → a * a < b * b
+sq-strict a b h = lt-of-le-of-lt (mul-le-mul-left a (le-of-lt h)) (mul-lt-mul-of-pos-right h (lt-of-le-of-lt zero-le h))
+
+-- ---- a value above the root
+nearer-above : (y z : Float) → T (positive y) → T (fits binary64 y) → T (positive z) → T (fits binary64 z) → steps (sqrtOf y) < steps z → area y < middle (sqrtOf y) z * middle (sqrtOf y) z
+nearer-above y z p f q k h =
     let G = steps (sqrtOf y) in
     let Z = steps z in
     let r = rounded y p f in
@@ -202,14 +252,23 @@ nearest-above y z p f q k h =
     let t = multiple z (on-grid z q k) i (le-trans (r .normal) (le-of-lt h)) in
     let gap : G + 2 ^ i ≤ Z =
     subst (λ (x : ℕ). x + 2 ^ i ≤ Z) (sym (r .is)) (subst (λ (x : ℕ). r .q * 2 ^ i + 2 ^ i ≤ x) (sym (t .1)) (apart (r .q) (t .0) (2 ^ i) (subst (λ (x : ℕ). r .q * 2 ^ i < x) (t .1) (subst (λ (x : ℕ). x < Z) (r .is) h)))) in
-    at-most (area y) (G + Z) (le-trans (r .over) (wide G Z (2 ^ i) gap))
+    let c = (2 * r .q + 1) * 2 ^ i in
+    let c-is : 2 * G + 2 ^ i ≡ c = ap (λ (x : ℕ). 2 * x + 2 ^ i) (r .is) ∙ half-above (r .q) (2 ^ i) in
+    lt-of-lt-of-le (lt-of-le-ne (at-most (area y) c (wide (twiceRoot (area y)) G (2 ^ i) c c-is (r .over))) (λ (e : area y ≡ c * c). no-tie y (on-grid y p f) (r .q) i (le-suc (r .digits)) (sym e)))
+    (sq-mono c (G + Z) (reaches G Z (2 ^ i) c c-is gap))
   where
-    wide : (G Z h : ℕ) → G + h ≤ Z → 4 * G + 2 * h ≤ 2 * (G + Z)
-    wide G Z h k = omega arith
+    wide : (a G h c : ℕ) → 2 * G + h ≡ c → a ≤ 4 * G + 2 * h → a ≤ 2 * c
+    wide a G h c e k = omega arith
 
-pub nearest-below : (y z : Float) → T (positive y) → T (fits binary64 y) → T (positive z) → T (fits binary64 z)
-    → steps z < steps (sqrtOf y) → (steps (sqrtOf y) + steps z) * (steps (sqrtOf y) + steps z) ≤ area y
-nearest-below y z p f q k h = at-least (area y) (G + Z) (go (decLe F Z))
+    reaches : (G Z h c : ℕ) → 2 * G + h ≡ c → G + h ≤ Z → c ≤ G + Z
+    reaches G Z h c e k = omega arith
+
+    le-suc : {a b : ℕ} → a ≤ b → a ≤ suc b
+    le-suc {a} {b} l = omega arith
+
+-- ---- a value below the root
+nearer-below : (y z : Float) → T (positive y) → T (fits binary64 y) → T (positive z) → T (fits binary64 z) → steps z < steps (sqrtOf y) → middle (sqrtOf y) z * middle (sqrtOf y) z < area y
+nearer-below y z p f q k h = go (decLe F Z)
   where
     G : ℕ
     G = steps (sqrtOf y)
@@ -223,27 +282,47 @@ nearest-below y z p f q k h = at-least (area y) (G + Z) (go (decLe F Z))
     F : ℕ
     F = 2 ^ 52 * 2 ^ r .i
 
-    narrow : (G Z h a : ℕ) → Z + h ≤ G → 4 * G ≤ a + 2 * h → 2 * (G + Z) ≤ a
-    narrow G Z h a k l = omega arith
+    -- at least 2 ^ i below
+    apart-from : (s : ℕ) → s ≡ r .q → Z + 2 ^ r .i ≤ G → (G + Z) * (G + Z) < area y
+    apart-from zero e l = absurd (none (subst (λ (x : ℕ). 2 ^ 52 ≤ x) (sym e) (r .digits)))
+      where
+        none : 2 ^ 52 ≤ 0 → ⊥
+        none l = omega arith
+    apart-from (suc t) e l =
+        let c = (2 * t + 1) * 2 ^ r .i in
+        let c-is : 2 * G ≡ c + 2 ^ r .i = ap (λ (x : ℕ). 2 * x) (r .is ∙ ap (λ (x : ℕ). x * 2 ^ r .i) (sym e)) ∙ half-below t (2 ^ r .i) in
+        lt-of-le-of-lt (sq-mono (G + Z) c (under G Z (2 ^ r .i) c c-is l))
+        (lt-of-le-ne (at-least (area y) c (narrow G (2 ^ r .i) c (twiceRoot (area y)) c-is (r .under))) (λ (x : c * c ≡ area y). no-tie y (on-grid y p f) t (r .i) (subst (λ (x : ℕ). 2 ^ 52 ≤ x) (sym e) (r .digits)) x))
+      where
+        under : (G Z h c : ℕ) → 2 * G ≡ c + h → Z + h ≤ G → G + Z ≤ c
+        under G Z h c e l = omega arith
 
-    under-first : (F G Z a : ℕ) → Z < F → F ≡ G → 4 * F ≤ a → 2 * (G + Z) ≤ a
-    under-first F G Z a k e l = omega arith
+        narrow : (G h c a : ℕ) → 2 * G ≡ c + h → 4 * G ≤ a + 2 * h → 2 * c ≤ a
+        narrow G h c a e l = omega arith
+
+    -- below the power of two that the root is
+    under-first : Z < F → F ≡ G → (G + Z) * (G + Z) < area y
+    under-first l e = lt-of-lt-of-le (sq-strict (G + Z) (2 * F) (less F G Z l e)) (at-least (area y) (2 * F) (le-trans (le-of-eq (four F)) (r .first)))
+      where
+        less : (F G Z : ℕ) → Z < F → F ≡ G → G + Z < 2 * F
+        less F G Z l e = omega arith
+
+        four : (F : ℕ) → 2 * (2 * F) ≡ 4 * F
+        four F = omega arith
 
     far : (F G Z h : ℕ) → Z < F → F + h ≤ G → Z + h ≤ G
     far F G Z h k l = omega arith
 
-    low : Z < F → 2 * (G + Z) ≤ twice (area y)
-    low l = which (eq-or-lt-of-le (r .normal))
-      where
-        which : (F ≡ G) ⊎ (F < G) → 2 * (G + Z) ≤ twice (area y)
-        which (inl e) = under-first F G Z (twice (area y)) l e (r .first)
-        which (inr g) =
-            narrow G Z (2 ^ r .i) (twice (area y)) (far F G Z (2 ^ r .i) l (subst (λ (x : ℕ). F + 2 ^ r .i ≤ x) (sym (r .is)) (apart (2 ^ 52) (r .q) (2 ^ r .i) (subst (λ (x : ℕ). F < x) (r .is) g)))) (r .under)
-
-    go : Dec (F ≤ Z) → 2 * (G + Z) ≤ twice (area y)
+    go : Dec (F ≤ Z) → (G + Z) * (G + Z) < area y
     go (yes l) =
         let t = multiple z (on-grid z q k) (r .i) l in
-        narrow G Z (2 ^ r .i) (twice (area y))
+        apart-from (r .q) refl
         (subst (λ (x : ℕ). x + 2 ^ r .i ≤ G) (sym (t .1)) (subst (λ (x : ℕ). t .0 * 2 ^ r .i + 2 ^ r .i ≤ x) (sym (r .is)) (apart (t .0) (r .q) (2 ^ r .i) (subst (λ (x : ℕ). t .0 * 2 ^ r .i < x) (r .is) (subst (λ (x : ℕ). x < G) (t .1) h)))))
-        (r .under)
-    go (no l) = low (lt-of-not-le l)
+    go (no l) = elim (eq-or-lt-of-le (r .normal)) [
+      | inl e ↦ under-first (lt-of-not-le l) e
+      | inr g ↦ apart-from (r .q) refl (far F G Z (2 ^ r .i) (lt-of-not-le l) (subst (λ (x : ℕ). F + 2 ^ r .i ≤ x) (sym (r .is)) (apart (2 ^ 52) (r .q) (2 ^ r .i) (subst (λ (x : ℕ). F < x) (r .is) g))))
+    ]
+
+-- ---- the theorem
+pub sqrt-nearest : (y : Float) → T (positive y) → T (fits binary64 y) → Nearest y (sqrtOf y)
+sqrt-nearest y p f = record { above = λ z q k h. nearer-above y z p f q k h; below = λ z q k h. nearer-below y z p f q k h }

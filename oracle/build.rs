@@ -1,0 +1,43 @@
+//! Finds 000 and hands it, unchanged, to the compiler. Where it is not there, the build says so
+//! and goes on without `cfg(with_000)`.
+
+use std::path::{Path, PathBuf};
+use std::{env, fs};
+
+const BESIDE: &str = "../../shared/docs/src/src/polyline/internal/raw_pline_offset.rs";
+
+fn main() {
+    println!("cargo::rustc-check-cfg=cfg(with_000)");
+    println!("cargo::rerun-if-env-changed=BLIDROSK_000");
+    let here = PathBuf::from(env::var_os("CARGO_MANIFEST_DIR").expect("cargo names the folder"));
+    let source = env::var_os("BLIDROSK_000").map_or_else(|| here.join(BESIDE), PathBuf::from);
+    println!("cargo::rerun-if-changed={}", source.display());
+    if source.is_file() {
+        include_000(&source);
+        println!("cargo::rustc-cfg=with_000");
+    } else {
+        println!(
+            "cargo::warning=000 is not at {}: name its path in BLIDROSK_000",
+            source.display()
+        );
+    }
+    if env::var_os("CARGO_FEATURE_PROVED").is_some() {
+        link_proved(&here.join("../target/native"));
+    }
+}
+
+/// Copies 000 to the build's own folder and writes the one line that makes it a module.
+fn include_000(source: &Path) {
+    let out = PathBuf::from(env::var_os("OUT_DIR").expect("cargo names the build folder"));
+    let copy = out.join("raw_pline_offset.rs");
+    fs::copy(source, &copy).expect("000 can be copied");
+    let line = format!("#[path = {copy:?}]\npub mod raw_pline_offset;\n");
+    fs::write(out.join("internal.rs"), line).expect("the build folder can be written");
+}
+
+/// Links `libblidrosk.a`, the archive of the proved code.
+fn link_proved(folder: &Path) {
+    println!("cargo::rerun-if-changed={}", folder.display());
+    println!("cargo::rustc-link-search=native={}", folder.display());
+    println!("cargo::rustc-link-lib=static=blidrosk");
+}

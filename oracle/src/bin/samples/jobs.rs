@@ -1,0 +1,20 @@
+//! Whole jobs, most of them open and of three vertices: two segments and one join.
+
+use oracle::text::{job_row, outcome_row, read_job};
+
+/// Comments and jobs: 01's rows and settled points, then what `compare cover` found.
+const JOBS: [&str; 2] = [include_str!("settled.txt"), include_str!("jobs.txt")];
+
+pub fn print() {
+    println!("# job: closed offset eps v vertices -> number place vertices indexes closed,");
+    println!("# the drawn vertices, a flag for each segment, the indexes");
+    for line in JOBS.iter().flat_map(|list| list.lines()) {
+        if line.starts_with('#') {
+            println!("{line}");
+            continue;
+        }
+        let job = read_job(line).unwrap_or_else(|| panic!("not a job: {line}"));
+        let outcome = job.run(oracle::job);
+        println!("job {} -> {}", job_row(&job), outcome_row(&outcome));
+    }
+}

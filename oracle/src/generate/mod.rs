@@ -1,0 +1,12 @@
+//! Jobs to compare on: all short ones over a small grid, random ones of several families, and
+//! jobs steered to the doubles between which a test turns.
+
+mod families;
+mod grid;
+mod random;
+mod steer;
+
+pub use families::{FAMILIES, Family};
+pub use grid::each_short_job;
+pub use random::Random;
+pub use steer::Steering;

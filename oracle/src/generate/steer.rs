@@ -1,0 +1,278 @@
+//! Jobs at the very doubles between which a test turns.
+//!
+//! A small job and one of its numbers are taken, and the margin of one test of its path is
+//! followed to where it turns; then the two neighbouring doubles are found by halving between
+//! their bit patterns. A tally for each test makes rare tests as frequent as common ones.
+
+use super::{FAMILIES, Random};
+use crate::stage::Job;
+use crate::traced::{Asked, Site, Trace, job as traced_job};
+
+/// How many jobs are kept for each answer of each test to start from.
+const POOL: usize = 64;
+/// Jobs longer than this are not steered.
+const LONGEST: usize = 6;
+/// How often another answer is looked for near a job.
+const PROBES: usize = 16;
+
+pub struct Steering {
+    random: Random,
+    /// For each test, jobs that answer it no and yes.
+    pools: Vec<[Vec<Job>; 2]>,
+    /// For each test, the turns found that change an answer.
+    pub turns: Vec<u64>,
+    /// For each test, the turns found that change none.
+    pub idle: Vec<u64>,
+    /// For each test, how often it was aimed at.
+    aimed: Vec<u64>,
+}
+
+impl Steering {
+    pub fn new(seed: u64) -> Self {
+        let sites = Site::ALL.len();
+        let mut steering = Self {
+            random: Random::new(seed),
+            pools: vec![[Vec::new(), Vec::new()]; sites],
+            turns: vec![0; sites],
+            idle: vec![0; sites],
+            aimed: vec![0; sites],
+        };
+        for _ in 0..2000 * FAMILIES.len() {
+            steering.draw();
+        }
+        steering
+    }
+
+    /// Takes a random job into the pools of the tests that it asks.
+    fn draw(&mut self) {
+        let (_, family) = FAMILIES[self.random.below(FAMILIES.len())];
+        let job = family(&mut self.random);
+        self.keep(&job);
+    }
+
+    fn keep(&mut self, job: &Job) {
+        if job.source.len() > 3 * LONGEST {
+            return;
+        }
+        for asked in path(job) {
+            if asked.margin.is_nan() {
+                continue;
+            }
+            let pool = &mut self.pools[asked.site as usize][usize::from(asked.answer)];
+            if pool.len() < POOL {
+                pool.push(job.clone());
+            } else if self.random.one_in(8) {
+                let place = self.random.below(POOL);
+                pool[place] = job.clone();
+            }
+        }
+    }
+
+    /// Hands out the six jobs around one turn, when one is found.
+    pub fn around_a_turn(&mut self) -> Vec<Job> {
+        self.draw();
+        let Some(site) = self.rarest() else {
+            return Vec::new();
+        };
+        self.aimed[site as usize] += 1;
+        let Some((job, other)) = self.two_answers(site) else {
+            return Vec::new();
+        };
+        // Goes over to the other job number by number, until the answer changes.
+        let answer = answer_of(&job, site);
+        let mut near = job;
+        let slots = near.source.len() + 2;
+        let first = self.random.below(slots);
+        for slot in (0..slots).map(|i| (first + i) % slots) {
+            let far = with(&near, slot, value(&other, slot));
+            if answer_of(&far, site) != answer {
+                return self.between(&near, slot, value(&far, slot), site);
+            }
+            near = far;
+        }
+        Vec::new()
+    }
+
+    /// A test with few turns, found or sought.
+    fn rarest(&mut self) -> Option<Site> {
+        let weight = |site: &Site| {
+            let i = *site as usize;
+            let (found, aimed) = (self.turns[i] + self.idle[i] / 4, self.aimed[i]);
+            if found == 0 {
+                aimed
+            } else {
+                8 * found + aimed / 4
+            }
+        };
+        let open = |site: &&Site| self.pools[**site as usize].iter().any(|p| !p.is_empty());
+        let mut order: Vec<Site> = Site::ALL.iter().filter(open).copied().collect();
+        order.sort_by_key(weight);
+        let few = order.len().min(12);
+        (few > 0).then(|| order[self.random.below(few)])
+    }
+
+    /// Two jobs of like shape that answer a test differently.
+    fn two_answers(&mut self, site: Site) -> Option<(Job, Job)> {
+        let pools = &self.pools[site as usize];
+        let rarer = usize::from(pools[1].len() < pools[0].len());
+        let from = if pools[rarer].is_empty() || self.random.one_in(4) {
+            1 - rarer
+        } else {
+            rarer
+        };
+        let job = self.random.pick_clone(&pools[from])?;
+        if self.random.one_in(4)
+            && let Some(other) = self.random.pick_clone(&self.pools[site as usize][1 - from])
+            && (other.closed, other.source.len()) == (job.closed, job.source.len())
+        {
+            return Some((job, other));
+        }
+        let answer = answer_of(&job, site)?;
+        let found = |other: &Job| answer_of(other, site) == Some(!answer);
+        if self.random.one_in(2)
+            && let Some(other) = self.followed(&job, site)
+        {
+            return Some((job, other));
+        }
+        for _ in 0..PROBES {
+            let mut other = job.clone();
+            for _ in 0..=self.random.below(2) {
+                let slot = self.random.below(job.source.len() + 2);
+                let size = value(&job, slot).abs().max(job.eps) * self.random.size(-9.0, 0.5);
+                let moved = value(&job, slot) + self.random.around(size);
+                other = with(&other, slot, moved);
+            }
+            if found(&other) {
+                return Some((job, other));
+            }
+        }
+        None
+    }
+
+    /// Follows the margin of a test, by one number, to where it turns.
+    fn followed(&mut self, job: &Job, site: Site) -> Option<Job> {
+        let start = asked_of(job, site)?;
+        let slot = self.random.below(job.source.len() + 2);
+        let (mut at, mut margin) = (value(job, slot), start.margin);
+        let mut step = at.abs().max(1e-3) * self.random.size(-9.0, -1.0) * self.random.sign();
+        for _ in 0..PROBES {
+            let other = with(job, slot, at + step);
+            let Some(asked) = asked_of(&other, site) else {
+                step /= 4.0;
+                continue;
+            };
+            if asked.answer != start.answer {
+                return Some(other);
+            }
+            // The secant through the last two margins, a little beyond.
+            let aim = -asked.margin * step / (asked.margin - margin) * 1.1;
+            (at, margin) = (at + step, asked.margin);
+            step = if aim.is_finite() { aim } else { 2.0 * step };
+        }
+        None
+    }
+
+    /// Halves the bit patterns down to the two neighbours between which the answer changes, and
+    /// goes two units to either side.
+    fn between(&mut self, job: &Job, slot: usize, far: f64, site: Site) -> Vec<Job> {
+        let answer = answer_of(job, site);
+        let (mut low, mut high) = (key(value(job, slot)), key(far));
+        while low.abs_diff(high) > 1 {
+            let middle = low.midpoint(high);
+            if answer_of(&with(job, slot, number(middle)), site) == answer {
+                low = middle;
+            } else {
+                high = middle;
+            }
+        }
+        let (below, above) = (with(job, slot, number(low)), with(job, slot, number(high)));
+        let paths = (path(&below), path(&above));
+        let turned = agree(&paths.0, &paths.1);
+        // Another test than the one aimed at may have turned: it counts for what it is.
+        let Some(asked) = paths.0.get(turned) else {
+            return Vec::new();
+        };
+        let i = asked.site as usize;
+        let middling = self.middling();
+        let changes = matters(&below, turned) || matters(&above, turned);
+        // Turns that change nothing, and those of common tests, are not all worth a run.
+        let (count, enough) = if changes {
+            (&mut self.turns[i], 4 * middling + 64)
+        } else {
+            (&mut self.idle[i], 64)
+        };
+        *count += 1;
+        if *count > enough && !self.random.one_in(16) {
+            return Vec::new();
+        }
+        self.keep(&below);
+        self.keep(&above);
+        let step = high - low;
+        (-2..=3)
+            .map(|units| with(job, slot, number(low.saturating_add(units * step))))
+            .collect()
+    }
+
+    /// The turns of the middling test.
+    fn middling(&self) -> u64 {
+        let mut turns = self.turns.clone();
+        turns.sort_unstable();
+        turns[turns.len() / 2]
+    }
+}
+
+/// The first asking of a test by a job.
+fn asked_of(job: &Job, site: Site) -> Option<Asked> {
+    path(job).into_iter().find(|asked| asked.site == site)
+}
+
+fn answer_of(job: &Job, site: Site) -> Option<bool> {
+    asked_of(job, site).map(|asked| asked.answer)
+}
+
+fn path(job: &Job) -> Vec<Asked> {
+    let mut trace = Trace::new();
+    traced_job(&mut trace, job);
+    trace.path
+}
+
+/// How many tests two paths share before they part.
+fn agree(a: &[Asked], b: &[Asked]) -> usize {
+    let same = |(a, b): &(&Asked, &Asked)| (a.site, a.answer) == (b.site, b.answer);
+    a.iter().zip(b).take_while(same).count()
+}
+
+/// Whether another answer to that test gives the job another outcome.
+fn matters(job: &Job, place: usize) -> bool {
+    let plain = traced_job(&mut Trace::new(), job);
+    plain != traced_job(&mut Trace::flipped(place), job)
+}
+
+fn value(job: &Job, slot: usize) -> f64 {
+    match slot {
+        0 => job.offset,
+        1 => job.eps,
+        _ => job.source[slot - 2],
+    }
+}
+
+fn with(job: &Job, slot: usize, number: f64) -> Job {
+    let mut job = job.clone();
+    match slot {
+        0 => job.offset = number,
+        1 => job.eps = number,
+        _ => job.source[slot - 2] = number,
+    }
+    job
+}
+
+/// The order of doubles as an order of whole numbers; the two zeros are one.
+fn key(number: f64) -> i64 {
+    let bits = number.to_bits() as i64;
+    if bits < 0 { i64::MIN - bits } else { bits }
+}
+
+fn number(key: i64) -> f64 {
+    let bits = if key < 0 { i64::MIN - key } else { key };
+    f64::from_bits(bits as u64)
+}

@@ -1,0 +1,51 @@
+//! The proved code, called through its archive.
+
+use crate::stage::Answer;
+
+unsafe extern "C" {
+    fn blidrosk_raw_offset(
+        source: *const f64,
+        source_len: usize,
+        closed: u32,
+        offset: f64,
+        eps: f64,
+        vertices: *mut f64,
+        vertices_len: usize,
+        flags: *mut u8,
+        flags_len: usize,
+        indexes: *mut u32,
+        indexes_len: usize,
+        answer: *mut u32,
+    ) -> u32;
+}
+
+/// Works one job on the proved code.
+pub fn job(
+    source: &[f64],
+    closed: bool,
+    offset: f64,
+    eps: f64,
+    vertices: &mut [f64],
+    flags: &mut [u8],
+    indexes: &mut [u32],
+) -> Answer {
+    let mut answer = [u32::MAX; 5];
+    // SAFETY: each pointer is lent with its own length, and the answer has five places.
+    unsafe {
+        blidrosk_raw_offset(
+            source.as_ptr(),
+            source.len(),
+            closed.into(),
+            offset,
+            eps,
+            vertices.as_mut_ptr(),
+            vertices.len(),
+            flags.as_mut_ptr(),
+            flags.len(),
+            indexes.as_mut_ptr(),
+            indexes.len(),
+            answer.as_mut_ptr(),
+        );
+    }
+    answer
+}

@@ -1,0 +1,197 @@
+//! The job of 01 section 1, with its tests recorded.
+
+use super::joins::Setting;
+use super::moves::Drawing;
+use super::{Event, Site, Trace};
+use crate::polyline::{PlineSource, PlineVertex, Polyline};
+use crate::stage::{Answer, Job};
+
+/// What a job comes to, before it is written into the lent buffers.
+enum Result {
+    Refused(u32, usize),
+    Drawn(Drawing),
+}
+
+/// The traced job as a stage of its own.
+pub fn stage(
+    source: &[f64],
+    closed: bool,
+    offset: f64,
+    eps: f64,
+    vertices: &mut [f64],
+    flags: &mut [u8],
+    indexes: &mut [u32],
+) -> Answer {
+    let job = Job {
+        source: source.to_vec(),
+        closed,
+        offset,
+        eps,
+        room: [vertices.len(), flags.len(), indexes.len()],
+    };
+    let result = Trace::new().result(&job);
+    write(&job, &result, vertices, flags, indexes)
+}
+
+/// Works a job on a trace: the answer, and the bits of the drawn numbers, flags and indexes.
+pub fn job(trace: &mut Trace, job: &Job) -> (Answer, Vec<u64>) {
+    let result = trace.result(job);
+    let bits = match &result {
+        Result::Refused(..) => Vec::new(),
+        Result::Drawn(drawing) => {
+            let numbers = drawing.vertices.as_flattened().iter().map(|x| x.to_bits());
+            numbers
+                .chain(drawing.flags.iter().map(|flag| u64::from(*flag)))
+                .collect()
+        }
+    };
+    (answer(&result), bits)
+}
+
+fn answer(result: &Result) -> Answer {
+    match result {
+        Result::Refused(number, place) => [*number, *place as u32, 0, 0, 0],
+        Result::Drawn(drawing) => [
+            0,
+            0,
+            drawing.vertices.len() as u32,
+            drawing.flags.iter().filter(|flag| **flag).count() as u32,
+            drawing.closed.into(),
+        ],
+    }
+}
+
+fn write(
+    job: &Job,
+    result: &Result,
+    vertices: &mut [f64],
+    flags: &mut [u8],
+    indexes: &mut [u32],
+) -> Answer {
+    let room = 2 * job.segments();
+    let empty = Drawing::empty();
+    let drawing = match result {
+        Result::Refused(6, _) => &empty,
+        Result::Refused(..) => return answer(result),
+        Result::Drawn(drawing) => drawing,
+    };
+    let mut drawn = drawing.vertices.as_flattened().iter().copied();
+    for place in &mut vertices[..3 * room] {
+        *place = drawn.next().unwrap_or(0.0);
+    }
+    let raised = (0..drawing.flags.len()).filter(|i| drawing.flags[*i]);
+    let mut raised = raised.map(|i| i as u32);
+    for i in 0..room {
+        flags[i] = drawing.flags.get(i).copied().unwrap_or(false).into();
+        indexes[i] = raised.next().unwrap_or(0);
+    }
+    answer(result)
+}
+
+impl Trace {
+    fn result(&mut self, job: &Job) -> Result {
+        let result = self.worked(job);
+        self.mark(match result {
+            Result::Drawn(_) => Event::Done,
+            Result::Refused(1, _) => Event::No1,
+            Result::Refused(2, _) => Event::No2,
+            Result::Refused(3, _) => Event::No3,
+            Result::Refused(4, _) => Event::No4,
+            Result::Refused(5, _) => Event::No5,
+            Result::Refused(..) => Event::No6,
+        });
+        result
+    }
+
+    fn worked(&mut self, job: &Job) -> Result {
+        let v = job.source.len() / 3;
+        if self.ask(Site::Ragged, !job.source.len().is_multiple_of(3)) {
+            return Result::Refused(1, 0);
+        }
+        if self.ask(Site::TooMany, v > 4096) {
+            return Result::Refused(2, 0);
+        }
+        if let Some(place) = self.bad_number(job) {
+            return Result::Refused(3, place);
+        }
+        if self.ask(Site::Few, v < 2) {
+            return Result::Drawn(Drawing::empty());
+        }
+        let need = 2 * job.segments();
+        if self.ask(Site::NoRoomVertices, job.room[0] / 3 < need)
+            || self.ask(Site::NoRoomFlags, job.room[1] < need)
+            || self.ask(Site::NoRoomIndexes, job.room[2] < need)
+        {
+            return Result::Refused(4, 0);
+        }
+        let source = Polyline {
+            vertices: job.source.chunks(3).map(vertex).collect(),
+            is_closed: job.closed,
+        };
+        if self.equals(Site::ZeroOffset, job.offset, 0.0) {
+            self.mark(Event::Copied);
+            return Result::Drawn(Drawing {
+                vertices: job.source.chunks(3).map(|n| [n[0], n[1], n[2]]).collect(),
+                flags: vec![false; job.segments()],
+                closed: job.closed,
+            });
+        }
+        for (i, (v1, v2)) in source.iter_segments().enumerate() {
+            let sites = [Site::RepeatedX, Site::RepeatedY];
+            if self.near(sites, v1.pos(), v2.pos(), job.eps) {
+                return Result::Refused(5, i);
+            }
+        }
+        self.drawn(job, &source)
+    }
+
+    fn drawn(&mut self, job: &Job, source: &Polyline) -> Result {
+        let set = Setting {
+            offset: job.offset,
+            eps: job.eps,
+        };
+        let segments = self.segments(source, job.offset);
+        if segments.len() == 1 && segments[0].is_collapsed() {
+            self.mark(Event::LoneCollapsed);
+            return Result::Drawn(Drawing::empty());
+        }
+        let walk = self.walk(set, source, &segments);
+        let drawing = self.draw(set, &walk, job.closed);
+        for number in drawing.vertices.as_flattened() {
+            if !self.ask(Site::Finite, number.is_finite()) {
+                return Result::Refused(6, 0);
+            }
+        }
+        Result::Drawn(drawing)
+    }
+
+    fn bad_number(&mut self, job: &Job) -> Option<usize> {
+        let v = job.source.len() / 3;
+        let limits = [
+            (Site::XAtLeast, Site::XAtMost, 1_000_000.0),
+            (Site::YAtLeast, Site::YAtMost, 1_000_000.0),
+            (Site::BulgeAtLeast, Site::BulgeAtMost, 1000.0),
+        ];
+        for (i, number) in job.source.iter().enumerate() {
+            let (low, high, limit) = limits[i % 3];
+            if !(self.at_least(low, *number, -limit) && self.at_most(high, *number, limit)) {
+                return Some(i / 3);
+            }
+        }
+        if !(self.at_least(Site::OffsetAtLeast, job.offset, -1_000_000.0)
+            && self.at_most(Site::OffsetAtMost, job.offset, 1_000_000.0))
+        {
+            return Some(v);
+        }
+        if !(self.at_least(Site::EpsAtLeast, job.eps, 1e-9)
+            && self.at_most(Site::EpsAtMost, job.eps, 0.01))
+        {
+            return Some(v + 1);
+        }
+        None
+    }
+}
+
+fn vertex(n: &[f64]) -> PlineVertex {
+    PlineVertex::new(n[0], n[1], n[2])
+}

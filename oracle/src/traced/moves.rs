@@ -1,0 +1,159 @@
+//! The walk as a row of moves, and the drawing that the kept ones make.
+
+use super::joins::{Join, Setting};
+use super::segments::Segment;
+use super::{Event, Site, Trace};
+use crate::core::math::Vector2;
+use crate::polyline::{PlineSource, PlineVertex, Polyline};
+
+pub(super) struct Move {
+    end: Vector2,
+    bulge: f64,
+    invalid: bool,
+    is_span: bool,
+}
+
+/// Where the walk starts, and its moves. The last move of a closed walk ends where it starts.
+pub(super) struct Walk {
+    start: Vector2,
+    moves: Vec<Move>,
+}
+
+pub(super) struct Drawing {
+    pub vertices: Vec<[f64; 3]>,
+    pub flags: Vec<bool>,
+    pub closed: bool,
+}
+
+impl Drawing {
+    pub fn empty() -> Self {
+        Self {
+            vertices: Vec::new(),
+            flags: Vec::new(),
+            closed: false,
+        }
+    }
+}
+
+impl Trace {
+    pub(super) fn walk(&mut self, set: Setting, source: &Polyline, segments: &[Segment]) -> Walk {
+        let last = segments.len() - 1;
+        let closing = source
+            .is_closed
+            .then(|| self.join(set, &segments[last], &segments[0], source.at(0).pos()));
+        let start = closing.map_or(segments[0].ends[0], |join| join.start);
+        let mut from = closing.map_or(0.0, |join| join.start_param);
+        let mut moves = Vec::new();
+        for i in 0..last {
+            let shared = source.at(i + 1).pos();
+            let join = self.join(set, &segments[i], &segments[i + 1], shared);
+            moves.push(self.span(&segments[i], from, &join, join.end));
+            moves.push(connector(&join, join.start));
+            from = join.start_param;
+        }
+        match closing {
+            None => {
+                let end = segments[last].ends[1];
+                moves.push(self.span(&segments[last], from, &whole_end(end), end));
+            }
+            Some(join) => {
+                let sites = [Site::ClosingMeetsX, Site::ClosingMeetsY];
+                if self.near(sites, join.end, join.start, set.eps) {
+                    self.mark(Event::ClosingSpan);
+                    moves.push(self.span(&segments[last], from, &join, start));
+                } else {
+                    self.mark(Event::ClosingConnector);
+                    moves.push(self.span(&segments[last], from, &join, join.end));
+                    moves.push(connector(&join, start));
+                }
+            }
+        }
+        Walk { start, moves }
+    }
+
+    /// The part of a segment from `from` up to a join, as a move to `end`.
+    fn span(&mut self, segment: &Segment, from: f64, join: &Join, end: Vector2) -> Move {
+        let back = segment.is_collapsed() || self.at_most(Site::TurnedBack, join.end_param, from);
+        Move {
+            end,
+            bulge: segment.bulge(from, join.end_param),
+            invalid: back,
+            is_span: true,
+        }
+    }
+
+    /// Draws each vertex when a kept move leaves it.
+    pub(super) fn draw(&mut self, set: Setting, walk: &Walk, closed: bool) -> Drawing {
+        let mut drawing = Drawing::empty();
+        let mut last = walk.start;
+        for (i, step) in walk.moves.iter().enumerate() {
+            let closing = closed && i + 1 == walk.moves.len();
+            let sites = if closing {
+                [Site::CloseX, Site::CloseY]
+            } else {
+                [Site::DropX, Site::DropY]
+            };
+            let dropped = self.near(sites, last, step.end, set.eps);
+            self.mark(fate(step, dropped));
+            self.mark_if(
+                dropped && closing && !drawing.vertices.is_empty(),
+                Event::LastRemoved,
+            );
+            if !dropped {
+                drawing.vertices.push([last.x, last.y, step.bulge]);
+                drawing.flags.push(step.invalid);
+                last = step.end;
+            }
+        }
+        if drawing.vertices.is_empty() {
+            self.mark(Event::NothingKept);
+            return drawing;
+        }
+        if !closed {
+            drawing.vertices.push([last.x, last.y, 0.0]);
+        }
+        drawing.closed = closed;
+        drawing
+    }
+
+    pub(super) fn segments(&mut self, source: &Polyline, offset: f64) -> Vec<Segment> {
+        let ends: Vec<(PlineVertex, PlineVertex)> = source.iter_segments().collect();
+        ends.into_iter()
+            .map(|(v1, v2)| self.segment(v1, v2, offset))
+            .collect()
+    }
+}
+
+fn connector(join: &Join, end: Vector2) -> Move {
+    Move {
+        end,
+        bulge: join.bulge,
+        invalid: join.invalid,
+        is_span: false,
+    }
+}
+
+/// A segment taken to its end.
+fn whole_end(end: Vector2) -> Join {
+    Join {
+        end,
+        end_param: 1.0,
+        start: end,
+        start_param: 0.0,
+        bulge: 0.0,
+        invalid: false,
+    }
+}
+
+fn fate(step: &Move, dropped: bool) -> Event {
+    match (step.is_span, dropped, step.invalid) {
+        (true, false, false) => Event::SpanKept,
+        (true, false, true) => Event::SpanFlagged,
+        (true, true, false) => Event::SpanDropped,
+        (true, true, true) => Event::SpanDroppedFlagged,
+        (false, false, false) => Event::ConnectorKept,
+        (false, false, true) => Event::ConnectorFlagged,
+        (false, true, false) => Event::ConnectorDropped,
+        (false, true, true) => Event::ConnectorDroppedFlagged,
+    }
+}

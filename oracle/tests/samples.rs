@@ -1,0 +1,53 @@
+//! The jobs of `samples` reach every test both ways and every event, but for those listed here.
+
+use oracle::text::read_job;
+use oracle::traced::Event::{No1, No2, No4};
+use oracle::traced::{EXPECTED, Site, Table, Trace, job};
+
+const JOBS: [&str; 2] = [
+    include_str!("../src/bin/samples/settled.txt"),
+    include_str!("../src/bin/samples/jobs.txt"),
+];
+
+/// Not in the list of samples: ragged and long lists, and little room, which `scope.rs` has.
+const ELSEWHERE: &[(Site, bool)] = &[
+    (Site::Ragged, true),
+    (Site::TooMany, true),
+    (Site::NoRoomVertices, true),
+    (Site::NoRoomFlags, true),
+    (Site::NoRoomIndexes, true),
+];
+
+/// Never reached. An inner join whose second line starts past the end of the first turns back, so
+/// it ends before it. Two candidates lie further apart than ε, or they would be one tangent point.
+const NEVER_ASKED: &[(Site, bool)] = &[(Site::BAtMostOne, false), (Site::SumSmall, true)];
+
+#[test]
+fn the_sample_jobs_reach_all() {
+    let mut table = Table::default();
+    let rows = JOBS.iter().flat_map(|list| list.lines());
+    for row in rows.filter(|row| !row.starts_with('#')) {
+        let mut trace = Trace::new();
+        job(&mut trace, &read_job(row).expect("a job"));
+        table.add(&trace);
+    }
+    let mut missing = Vec::new();
+    for site in Site::ALL {
+        for answer in [false, true] {
+            let one = (*site, answer);
+            let reached = table.sites[*site as usize][usize::from(answer)] > 0;
+            if !reached && !ELSEWHERE.contains(&one) && !NEVER_ASKED.contains(&one) {
+                missing.push(format!("{}: {answer}", site.text()));
+            }
+        }
+    }
+    for (pair, events) in EXPECTED {
+        for event in *events {
+            let reached = table.events[*event as usize][*pair as usize] > 0;
+            if !reached && !matches!(event, No1 | No2 | No4) {
+                missing.push(format!("{} {}", pair.text(), event.text()));
+            }
+        }
+    }
+    assert!(missing.is_empty(), "{missing:#?}");
+}
