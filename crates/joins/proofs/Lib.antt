@@ -1,0 +1,4 @@
+pub mod Bound
+pub mod Settling
+pub mod Made
+pub mod Samples

@@ -1,0 +1,17 @@
+use mathlib.Core.Path.{refl}
+use Rattle.floats.proofs.Choice.{yes, no}
+use Rattle.floats.proofs.Same.{tested}
+use Rattle.joins.specs.Join.{tangentCause}
+use Rattle.joins.specs.Steps.{turnCause}
+use Rattle.joins.proofs.tangent_cause.Statement.{statement}
+use Rattle.joins.proofs.tangent_cause.Tie as tie
+
+pub tangent-cause-spec : {M : Type 1} → statement M
+unfolding tangentCause turnCause
+tangent-cause-spec =
+    tie.close
+    (tie.spec
+    (λ c κs. tt) (λ c κs. tt) (λ c κs. tt)
+    (λ c. yes _ _ _ (tested (c .if1 .taken) (simp (c .before .either-at-most .ensures, c .before .before .length-squared2 .ensures, c .before .before .before .length-squared .ensures))) refl)
+    (λ c κs. tt) (λ c κs. tt) (λ c κs. tt)
+    (λ c. no _ _ _ (tested (c .before .before .before .if1 .left) (simp (c .before .before .before .before .either-at-most .ensures, c .before .before .before .before .before .length-squared2 .ensures, c .before .before .before .before .before .before .length-squared .ensures))) (simp (c .turn-cause .ensures, c .before .dot .ensures, c .before .before .perp-dot .ensures, c .before .before .before .before .before .length-squared2 .ensures, c .before .before .before .before .before .before .length-squared .ensures))))

@@ -1,0 +1,359 @@
+// The join of two neighbouring offset segments.
+ghost use mathlib.Core.Path.{_≡_};
+ghost use lib.Ieee.{le};
+ghost use Rattle.floats.specs.Choice.{_or_};
+ghost use Rattle.segments.specs.declared.RawOffsetSeg.the-variants.{Line, Arc};
+ghost use Rattle.joins.specs.declared.JoinClass.the-variants.{InvalidInnerGap, InvalidDegenerateGap};
+ghost use Rattle.joins.specs.Boundary.{straight, trimmed, isGap};
+ghost use Rattle.joins.specs.Connector.{clampCos, clampSin, bulgeSize, connectorBulge};
+ghost use Rattle.joins.specs.Join.{tangentCause, causeOf, rounded, trimmedBy, innerJoin, joinOf};
+ghost use Rattle.joins.specs.Steps.{turnCause, settledBy};
+use meetings::Met;
+use segments::RawOffsetArc;
+use segments::RawOffsetLine;
+use segments::RawOffsetSeg;
+use vectors::Vector2;
+
+pub enum JoinClass {
+    Coincident,
+    Trimmed,
+    OuterRound,
+    ReversalRound,
+    InvalidInnerGap,
+    InvalidDegenerateGap,
+}
+
+// Why a join is what it is, in the order of the tests.
+pub enum JoinCause {
+    Coincident,
+    ZeroTangent,
+    SameDirection,
+    Reversal,
+    Outer,
+    Inner,
+}
+
+pub struct JoinBoundary {
+    pub class: JoinClass,
+    pub current_end: Vector2,
+    pub current_param: f64,
+    pub next_start: Vector2,
+    pub next_param: f64,
+    pub connector_bulge: f64,
+}
+
+// A boundary that needs no intersection, or an inner join, which does.
+pub enum Settled {
+    Boundary(JoinBoundary),
+    Inner,
+}
+
+impl JoinBoundary {
+    // Both spans whole, and a straight connector.
+    pub fn straight(class: JoinClass, current_end: Vector2, next_start: Vector2) -> JoinBoundary
+        ensures { λ r. ⌜ r ≡ straight class «current_end» «next_start» ⌝ }
+    {
+        JoinBoundary {
+            class,
+            current_end,
+            current_param: 1.0,
+            next_start,
+            next_param: 0.0,
+            connector_bulge: 0.0,
+        }
+    }
+
+    // Both spans cut at one point.
+    pub fn trimmed(point: Vector2, current_param: f64, next_param: f64) -> JoinBoundary
+        ensures { λ r. ⌜ r ≡ trimmed point «current_param» «next_param» ⌝ }
+    {
+        JoinBoundary {
+            class: JoinClass::Trimmed,
+            current_end: point,
+            current_param,
+            next_start: point,
+            next_param,
+            connector_bulge: 0.0,
+        }
+    }
+
+    // Both spans whole, and an arc about the shared source vertex.
+    pub fn round(
+        class: JoinClass,
+        current_end: Vector2,
+        next_start: Vector2,
+        shared_source_vertex: Vector2,
+        offset: f64,
+    ) -> JoinBoundary
+        ensures { λ r. ⌜ r ≡ rounded class «current_end» «next_start» «shared_source_vertex» offset ⌝ }
+    {
+        JoinBoundary {
+            class,
+            current_end,
+            current_param: 1.0,
+            next_start,
+            next_param: 0.0,
+            connector_bulge: connector_bulge(offset, current_end, next_start, shared_source_vertex),
+        }
+    }
+
+    pub fn connector_is_invalid(self) -> bool
+        ensures { λ r. ⌜ r ≡ isGap (self .class) ⌝ }
+    {
+        let class = self.class;
+        match class {
+            JoinClass::Coincident => false,
+            JoinClass::Trimmed => false,
+            JoinClass::OuterRound => false,
+            JoinClass::ReversalRound => false,
+            JoinClass::InvalidInnerGap => true,
+            JoinClass::InvalidDegenerateGap => true,
+        }
+    }
+}
+
+fn clamp_cos(cos: f64) -> f64
+    ensures { λ r. ⌜ r ≡ clampCos cos ⌝ }
+{
+    if cos < -1.0 {
+        return -1.0;
+    }
+    if cos > 1.0 {
+        return 1.0;
+    }
+    cos
+}
+
+fn clamp_sin(sin: f64) -> f64
+    ensures { λ r. ⌜ r ≡ clampSin sin ⌝ }
+{
+    if sin > 1.0 {
+        return 1.0;
+    }
+    sin
+}
+
+// tan(sweep / 4). The one form loses no digits as the sweep nears zero, the other as it nears a
+// half circle.
+fn bulge_size(cos: f64, sin: f64) -> f64
+    ensures { λ r. ⌜ r ≡ bulgeSize cos sin ⌝ }
+{
+    if cos >= 0.0 {
+        return sin / (1.0 + cos + floats::sqrt(2.0 * (1.0 + cos)));
+    }
+    (1.0 - cos) / (sin + floats::sqrt(2.0 * (1.0 - cos)))
+}
+
+fn connector_bulge(
+    offset: f64,
+    current_end: Vector2,
+    next_start: Vector2,
+    shared_source_vertex: Vector2,
+) -> f64
+    ensures { λ r. ⌜ r ≡ connectorBulge offset «current_end» «next_start» «shared_source_vertex» ⌝ }
+{
+    let current_direction = current_end.sub(shared_source_vertex).normalize();
+    let next_direction = next_start.sub(shared_source_vertex).normalize();
+    let cos_sweep = clamp_cos(current_direction.dot(next_direction));
+    let sin_sweep = clamp_sin(floats::abs(current_direction.perp_dot(next_direction)));
+    let size = bulge_size(cos_sweep, sin_sweep);
+    if offset >= 0.0 {
+        return -size;
+    }
+    size
+}
+
+fn either_at_most(a: f64, b: f64, limit: f64) -> bool
+    ensures { λ r. ⌜ r ≡ (le a limit or le b limit) ⌝ }
+{
+    a <= limit || b <= limit
+}
+
+fn turn_cause(
+    turn: f64,
+    alignment: f64,
+    incoming_len_sq: f64,
+    outgoing_len_sq: f64,
+    offset: f64,
+) -> JoinCause
+    ensures { λ r. ⌜ r ≡ turnCause turn alignment «incoming_len_sq» «outgoing_len_sq» offset ⌝ }
+{
+    if turn * turn <= 1e-8 * 1e-8 * incoming_len_sq * outgoing_len_sq {
+        if alignment < 0.0 {
+            return JoinCause::Reversal;
+        }
+        return JoinCause::SameDirection;
+    }
+    if offset * turn > 0.0 {
+        return JoinCause::Inner;
+    }
+    JoinCause::Outer
+}
+
+// By the tangents into and out of the shared vertex: a zero one has no direction.
+fn tangent_cause(incoming: Vector2, outgoing: Vector2, offset: f64, eps: f64) -> JoinCause
+    ensures { λ r. ⌜ r ≡ tangentCause incoming outgoing offset eps ⌝ }
+{
+    let incoming_len_sq = incoming.length_squared();
+    let outgoing_len_sq = outgoing.length_squared();
+    if either_at_most(incoming_len_sq, outgoing_len_sq, eps * eps) {
+        return JoinCause::ZeroTangent;
+    }
+    let turn = incoming.perp_dot(outgoing);
+    let alignment = incoming.dot(outgoing);
+    turn_cause(turn, alignment, incoming_len_sq, outgoing_len_sq, offset)
+}
+
+pub fn classify_join(current: RawOffsetSeg, next: RawOffsetSeg, offset: f64, eps: f64) -> JoinCause
+    ensures { λ r. ⌜ r ≡ causeOf current next offset eps ⌝ }
+{
+    if current.end().fuzzy_eq_eps(next.start(), eps) {
+        return JoinCause::Coincident;
+    }
+    tangent_cause(current.end_tangent(), next.start_tangent(), offset, eps)
+}
+
+fn degenerate_gap(current_end: Vector2, next_start: Vector2) -> JoinBoundary
+    ensures { λ r. ⌜ r ≡ straight InvalidDegenerateGap «current_end» «next_start» ⌝ }
+{
+    JoinBoundary::straight(JoinClass::InvalidDegenerateGap, current_end, next_start)
+}
+
+// The boundary of each cause but an inner turn. A coincident one starts the next span at the
+// current segment's end.
+pub fn join_without_intersection(
+    current: RawOffsetSeg,
+    next: RawOffsetSeg,
+    shared_source_vertex: Vector2,
+    offset: f64,
+    eps: f64,
+) -> Settled
+    ensures { λ r. ⌜ r ≡ settledBy (causeOf current next offset eps) current next «shared_source_vertex» offset eps ⌝ }
+{
+    let end = current.end();
+    let start = next.start();
+    let cause = classify_join(current, next, offset, eps);
+    match cause {
+        JoinCause::Coincident => Settled::Boundary(JoinBoundary::straight(
+            JoinClass::Coincident,
+            end,
+            end,
+        )),
+        JoinCause::ZeroTangent => Settled::Boundary(degenerate_gap(end, start)),
+        JoinCause::SameDirection => Settled::Boundary(degenerate_gap(end, start)),
+        JoinCause::Reversal => Settled::Boundary(JoinBoundary::round(
+            JoinClass::ReversalRound,
+            end,
+            start,
+            shared_source_vertex,
+            offset,
+        )),
+        JoinCause::Outer => Settled::Boundary(JoinBoundary::round(
+            JoinClass::OuterRound,
+            end,
+            start,
+            shared_source_vertex,
+            offset,
+        )),
+        JoinCause::Inner => Settled::Inner,
+    }
+}
+
+fn inner_gap(current_end: Vector2, next_start: Vector2) -> JoinBoundary
+    ensures { λ r. ⌜ r ≡ straight InvalidInnerGap «current_end» «next_start» ⌝ }
+{
+    JoinBoundary::straight(JoinClass::InvalidInnerGap, current_end, next_start)
+}
+
+fn trimmed_or_gap(met: Met, current_end: Vector2, next_start: Vector2) -> JoinBoundary
+    ensures { λ r. ⌜ r ≡ trimmedBy met «current_end» «next_start» ⌝ }
+{
+    match met {
+        Met::At(meeting) => JoinBoundary::trimmed(
+            meeting.point,
+            meeting.current_param,
+            meeting.next_param,
+        ),
+        Met::NoMeeting => inner_gap(current_end, next_start),
+        Met::CandidatesMissed => inner_gap(current_end, next_start),
+    }
+}
+
+fn join_from_line(
+    current: RawOffsetLine,
+    next: RawOffsetSeg,
+    shared_source_vertex: Vector2,
+    eps: f64,
+) -> JoinBoundary
+    ensures { λ r. ⌜ r ≡ innerJoin (Line current) next «shared_source_vertex» eps ⌝ }
+{
+    match next {
+        RawOffsetSeg::Line(line) => trimmed_or_gap(
+            meetings::line_line_meeting(current, line, eps),
+            current.end,
+            line.start,
+        ),
+        RawOffsetSeg::Arc(arc) => trimmed_or_gap(
+            meetings::line_arc_meeting(current, arc, shared_source_vertex, eps),
+            current.end,
+            arc.start,
+        ),
+        RawOffsetSeg::Collapsed(arc) => inner_gap(current.end, arc.start),
+    }
+}
+
+fn join_from_arc(
+    current: RawOffsetArc,
+    next: RawOffsetSeg,
+    shared_source_vertex: Vector2,
+    eps: f64,
+) -> JoinBoundary
+    ensures { λ r. ⌜ r ≡ innerJoin (Arc current) next «shared_source_vertex» eps ⌝ }
+{
+    match next {
+        RawOffsetSeg::Line(line) => trimmed_or_gap(
+            meetings::arc_line_meeting(current, line, shared_source_vertex, eps),
+            current.end,
+            line.start,
+        ),
+        RawOffsetSeg::Arc(arc) => trimmed_or_gap(
+            meetings::arc_arc_meeting(current, arc, shared_source_vertex, eps),
+            current.end,
+            arc.start,
+        ),
+        RawOffsetSeg::Collapsed(arc) => inner_gap(current.end, arc.start),
+    }
+}
+
+// The two are intersected; a collapsed one has no line or circle to meet.
+fn inner_join(
+    current: RawOffsetSeg,
+    next: RawOffsetSeg,
+    shared_source_vertex: Vector2,
+    eps: f64,
+) -> JoinBoundary
+    ensures { λ r. ⌜ r ≡ innerJoin current next «shared_source_vertex» eps ⌝ }
+{
+    match current {
+        RawOffsetSeg::Line(line) => join_from_line(line, next, shared_source_vertex, eps),
+        RawOffsetSeg::Arc(arc) => join_from_arc(arc, next, shared_source_vertex, eps),
+        RawOffsetSeg::Collapsed(arc) => inner_gap(arc.end, next.start()),
+    }
+}
+
+// The boundary between two neighbouring offset segments.
+pub fn analyze_join(
+    current: RawOffsetSeg,
+    next: RawOffsetSeg,
+    shared_source_vertex: Vector2,
+    offset: f64,
+    eps: f64,
+) -> JoinBoundary
+    ensures { λ r. ⌜ r ≡ joinOf current next «shared_source_vertex» offset eps ⌝ }
+{
+    let settled = join_without_intersection(current, next, shared_source_vertex, offset, eps);
+    if let Settled::Boundary(boundary) = settled {
+        return boundary;
+    }
+    inner_join(current, next, shared_source_vertex, eps)
+}

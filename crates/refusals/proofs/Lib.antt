@@ -1,0 +1,10 @@
+pub mod First
+pub mod Source
+pub mod Tests
+pub mod Joined
+pub mod Segments
+pub mod Numbers
+pub mod Bad
+pub mod NumberRow
+pub mod RepeatedRow
+pub mod Samples

@@ -1,0 +1,4 @@
+pub mod Source
+pub mod Limits
+pub mod Rows
+pub mod Steps

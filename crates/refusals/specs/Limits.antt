@@ -1,0 +1,66 @@
+-- What makes a source's numbers bad, and which of its vertices repeat (01 §1, Nos. 3 and 5). Definitions only.
+use Prim.Native.Nat.{ℕ, suc}
+use mathlib.Core.List.{List, [], _∷_, _++_, map}
+use mathlib.Core.Bool.{Bool, true, false, not}
+use lib.Ieee.{Float, binary64, neg, le, ofBits}
+use Rattle.floats.specs.Choice.{_and_}
+use Rattle.vectors.specs.Plane.{near}
+use Rattle.segments.specs.declared.PlineVertex.{PlineVertex}
+use Rattle.segments.specs.Vertex.{posOf}
+use Rattle.refusals.specs.declared.Place.{Place}
+use Rattle.refusals.specs.declared.Place.the-variants.{Nowhere, At}
+use Rattle.refusals.specs.Source.{around}
+
+-- 1,000,000: for x, y and the offset, on either side
+abbrev pub reach : Float
+reach = ofBits binary64 0x412e_8480_0000_0000
+
+-- 1000: for a bulge, on either side
+abbrev pub bulgeLimit : Float
+bulgeLimit = ofBits binary64 0x408f_4000_0000_0000
+
+-- 1e-9 and 0.01: for ε
+abbrev pub leastEps : Float
+leastEps = ofBits binary64 0x3e11_2e0b_e826_d695
+
+abbrev pub mostEps : Float
+mostEps = ofBits binary64 0x3f84_7ae1_47ae_147b
+
+-- from lo to hi, both counted; a NaN is not
+unfoldable pub inside : Float → Float → Float → Bool
+inside lo hi x = le lo x and le x hi
+
+unfoldable pub goodVertex : PlineVertex → Bool
+goodVertex v = inside (neg reach) reach (v .x) and inside (neg reach) reach (v .y) and inside (neg bulgeLimit) bulgeLimit (v .bulge)
+
+unfoldable pub goodOffset : Float → Bool
+goodOffset offset = inside (neg reach) reach offset
+
+unfoldable pub goodEps : Float → Bool
+goodEps ε = inside leastEps mostEps ε
+
+-- the tests of No. 3 in their order: each vertex, then the offset at place v, then ε at place v + 1
+unfoldable pub numberTests : List PlineVertex → Float → Float → List Bool
+numberTests vs offset ε = map (λ v. not (goodVertex v)) vs ++ not (goodOffset offset) ∷ not (goodEps ε) ∷ []
+
+-- two vertices differ by less than ε in x and in y. (The one definition of "repeated".)
+unfoldable pub repeats : Float → PlineVertex → PlineVertex → Bool
+repeats ε a b = near (posOf a) (posOf b) ε
+
+-- the same of each vertex with the next
+unfoldable pub neighbourTests : Float → List PlineVertex → List Bool
+neighbourTests ε [] = []
+neighbourTests ε (a ∷ []) = []
+neighbourTests ε (a ∷ b ∷ vs) = repeats ε a b ∷ neighbourTests ε (b ∷ vs)
+
+-- the tests of No. 5 in their order: the earlier vertex of a pair is its place, so that last to first has the place v − 1
+unfoldable pub repeatTests : Float → Bool → List PlineVertex → List Bool
+repeatTests ε closed vs = neighbourTests ε (around closed vs)
+
+-- the place of the first test that holds, the first test having the place k
+unfoldable pub firstFrom : ℕ → List Bool → Place
+firstFrom k [] = Nowhere
+firstFrom k (b ∷ bs) = elim b [ true ↦ At k | false ↦ firstFrom (suc k) bs ]
+
+abbrev pub firstOf : List Bool → Place
+firstOf bs = firstFrom 0 bs
