@@ -82,7 +82,28 @@ impl Trace {
         if let Some(join) = self.settled(set, current, next, shared) {
             return join;
         }
-        let meeting = match (current.kind, next.kind) {
+        match self.meeting(set, current, next, shared) {
+            Some((point, end_param, start_param)) => {
+                self.mark(Event::Trimmed);
+                Join {
+                    end_param,
+                    start_param,
+                    ..Join::whole(point, point)
+                }
+            }
+            None => Join::gap(end, start),
+        }
+    }
+
+    /// Where the two meet; a collapsed one has no line or circle to meet.
+    pub(super) fn meeting(
+        &mut self,
+        set: Setting,
+        current: &Segment,
+        next: &Segment,
+        shared: Vector2,
+    ) -> Option<Meeting> {
+        match (current.kind, next.kind) {
             (Kind::Line, Kind::Line) => self.line_line(set, current.ends, next.ends),
             (Kind::Line, Kind::Arc(arc)) => self.line_arc(set, current.ends, &arc, shared),
             (Kind::Arc(arc), Kind::Line) => self
@@ -95,19 +116,8 @@ impl Trace {
                     (true, false) => Event::CollapsedCurrent,
                     _ => Event::CollapsedNext,
                 });
-                return Join::gap(end, start);
+                None
             }
-        };
-        match meeting {
-            Some((point, end_param, start_param)) => {
-                self.mark(Event::Trimmed);
-                Join {
-                    end_param,
-                    start_param,
-                    ..Join::whole(point, point)
-                }
-            }
-            None => Join::gap(end, start),
         }
     }
 
@@ -148,7 +158,13 @@ impl Trace {
         Some(self.round(set, end, start, shared))
     }
 
-    fn round(&mut self, set: Setting, end: Vector2, start: Vector2, shared: Vector2) -> Join {
+    pub(super) fn round(
+        &mut self,
+        set: Setting,
+        end: Vector2,
+        start: Vector2,
+        shared: Vector2,
+    ) -> Join {
         // What comes of a connector does not hang on the two segments.
         let pair = std::mem::replace(&mut self.pair, Pair::NoJoin);
         let (from, to) = ((end - shared).normalize(), (start - shared).normalize());
@@ -244,7 +260,12 @@ impl Trace {
         (point, param(0, t), param(1, s))
     }
 
-    fn usable_line_param(&mut self, set: Setting, param: f64, line: [Vector2; 2]) -> Option<f64> {
+    pub(super) fn usable_line_param(
+        &mut self,
+        set: Setting,
+        param: f64,
+        line: [Vector2; 2],
+    ) -> Option<f64> {
         let low = self.below(Site::LineParamLow, param, 0.0);
         if !low && !self.above(Site::LineParamHigh, param, 1.0) {
             self.mark(if param.is_nan() {
@@ -267,7 +288,12 @@ impl Trace {
         (!missed).then_some(bound)
     }
 
-    fn usable_arc_param(&mut self, set: Setting, arc: &Arc, point: Vector2) -> Option<f64> {
+    pub(super) fn usable_arc_param(
+        &mut self,
+        set: Setting,
+        arc: &Arc,
+        point: Vector2,
+    ) -> Option<f64> {
         let [start, end] = arc.ends;
         if self.near([Site::ArcStartX, Site::ArcStartY], point, start, set.eps) {
             self.mark(Event::ArcStartMatched);
@@ -481,7 +507,7 @@ impl Trace {
         }
     }
 
-    fn equally_near(&mut self, set: Setting, first: f64, second: f64) -> bool {
+    pub(super) fn equally_near(&mut self, set: Setting, first: f64, second: f64) -> bool {
         let least = set.eps * set.eps;
         let sum = first + second;
         if self.at_most(Site::SumSmall, sum, least) {

@@ -8,6 +8,7 @@ mod arithmetic;
 mod job;
 mod joins;
 mod moves;
+pub mod parts;
 mod segments;
 mod sites;
 

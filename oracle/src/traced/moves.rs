@@ -73,13 +73,16 @@ impl Trace {
 
     /// The part of a segment from `from` up to a join, as a move to `end`.
     fn span(&mut self, segment: &Segment, from: f64, join: &Join, end: Vector2) -> Move {
-        let back = segment.is_collapsed() || self.at_most(Site::TurnedBack, join.end_param, from);
         Move {
             end,
             bulge: segment.bulge(from, join.end_param),
-            invalid: back,
+            invalid: self.span_is_invalid(segment, from, join.end_param),
             is_span: true,
         }
+    }
+
+    pub(super) fn span_is_invalid(&mut self, segment: &Segment, from: f64, to: f64) -> bool {
+        segment.is_collapsed() || self.at_most(Site::TurnedBack, to, from)
     }
 
     /// Draws each vertex when a kept move leaves it.

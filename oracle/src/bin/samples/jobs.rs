@@ -1,9 +1,20 @@
 //! Whole jobs, most of them open and of three vertices: two segments and one join.
 
+use oracle::stage::Job;
 use oracle::text::{job_row, outcome_row, read_job};
 
 /// Comments and jobs: 01's rows and settled points, then what `compare cover` found.
 const JOBS: [&str; 2] = [include_str!("settled.txt"), include_str!("jobs.txt")];
+
+/// Each job of the two lists.
+pub fn all() -> impl Iterator<Item = Job> {
+    let lines = JOBS.iter().flat_map(|list| list.lines());
+    lines.filter(|line| !line.starts_with('#')).map(job)
+}
+
+fn job(line: &str) -> Job {
+    read_job(line).unwrap_or_else(|| panic!("not a job: {line}"))
+}
 
 pub fn print() {
     println!("# job: closed offset eps v vertices -> number place vertices indexes closed,");
@@ -13,7 +24,7 @@ pub fn print() {
             println!("{line}");
             continue;
         }
-        let job = read_job(line).unwrap_or_else(|| panic!("not a job: {line}"));
+        let job = job(line);
         let outcome = job.run(oracle::job);
         println!("job {} -> {}", job_row(&job), outcome_row(&outcome));
     }

@@ -1,5 +1,6 @@
 //! The functions of 01 section 3 and the offset segments of 000, on inputs that reach each branch.
 
+use crate::rows::{Rows, named, point, words};
 use oracle::core::math::{
     CircleCircleIntr, LineCircleIntr, LineLineIntr, Vector2, angle, angle_from_bulge, atan,
     bulge_from_angle, circle_circle_intr, dist_squared, line_circle_intr, line_line_intr,
@@ -19,43 +20,52 @@ const TINY: f64 = 5e-324;
 /// The tangent of an eighth of π: a quarter circle's bulge.
 const QUARTER: f64 = SQRT_2 - 1.0;
 
-fn words(numbers: &[f64]) -> String {
-    let words: Vec<String> = numbers.iter().map(|x| bits(*x)).collect();
-    words.join(" ")
+/// A vertex, the point after it, and the offset.
+pub const SEGMENTS: [[f64; 6]; 26] = [
+    [0.0, 0.0, 0.0, 4.0, 0.0, 1.0],
+    [0.0, 0.0, 0.0, 4.0, 0.0, -1.0],
+    [0.1, 0.2, 0.0, 0.7, -0.4, 0.3],
+    [0.0, 0.0, 9.999999e-9, 4.0, 0.0, 1.0],
+    [0.0, 0.0, 1e-8, 4.0, 0.0, 1.0],
+    [0.0, 0.0, -1e-8, 4.0, 0.0, 1.0],
+    [0.0, 0.0, 1.0, 4.0, 0.0, 1.0],
+    [0.0, 0.0, -1.0, 4.0, 0.0, 1.0],
+    [0.0, 0.0, 1.0, 4.0, 0.0, -1.0],
+    [0.1, -0.3, 0.6, 1.7, 0.4, 0.2],
+    [0.1, -0.3, -0.6, 1.7, 0.4, 0.2],
+    [0.0, 0.0, QUARTER, 1.0, 1.0, 0.5],
+    [0.0, 0.0, -3.0, 1.0, 1.0, 0.5],
+    // The radius used up, all but used up by 1e-8 and a little more, by 1e-8, past zero.
+    [0.0, 0.0, 1.0, 4.0, 0.0, 2.0],
+    [0.0, 0.0, 1.0, 4.0, 0.0, 1.99999999],
+    [0.0, 0.0, 1.0, 4.0, 0.0, 1.999999989],
+    [0.0, 0.0, -1.0, 1e-8, 0.0, 5e-9],
+    [0.0, 0.0, 1.0, 4.0, 0.0, 3.0],
+    [0.0, 0.0, -1.0, 4.0, 0.0, -3.0],
+    [0.3, 0.1, -0.7, 1.1, 0.9, -2.0],
+    [1.0, 1.0, 0.0, 1.0, 1.0, 1.0],
+    [1.0, 1.0, 0.5, 1.0, 1.0, 1.0],
+    [0.0, 0.0, 1000.0, 1.0, 0.0, 0.25],
+    [-1e6, 0.0, 1.1e-8, 1e6, 0.0, 0.001],
+    [NAN, 0.0, 0.0, 1.0, 0.0, 1.0],
+    [0.0, 0.0, NAN, 1.0, 0.0, 1.0],
+];
+
+pub fn rows() -> Rows {
+    let mut rows = Rows::default();
+    numbers(&mut rows);
+    vectors(&mut rows);
+    angles(&mut rows);
+    points(&mut rows);
+    lines(&mut rows);
+    lines_and_circles(&mut rows);
+    circles(&mut rows);
+    segments(&mut rows);
+    rows
 }
 
-fn row(function: &str, inputs: &[f64], output: &str) {
-    println!("{function} {} -> {output}", words(inputs));
-}
-
-fn named(name: &str, numbers: &[f64]) -> String {
-    let separator = if numbers.is_empty() { "" } else { " " };
-    format!("{name}{separator}{}", words(numbers))
-}
-
-fn point(numbers: &[f64]) -> Vector2 {
-    Vector2::new(numbers[0], numbers[1])
-}
-
-pub fn print() {
-    numbers();
-    vectors();
-    angles();
-    points();
-    lines();
-    lines_and_circles();
-    circles();
-    segments();
-}
-
-fn each(function: &str, inputs: &[f64], of: fn(f64) -> f64) {
-    for x in inputs {
-        row(function, &[*x], &bits(of(*x)));
-    }
-}
-
-fn numbers() {
-    println!("# 01 3 Square root");
+fn numbers(rows: &mut Rows) {
+    rows.about("01 3 Square root");
     let roots = [
         0.0,
         -0.0,
@@ -90,11 +100,11 @@ fn numbers() {
         123_456_789.0,
         0.1,
     ];
-    each("sqrt", &roots, f64::sqrt);
+    rows.each("sqrt", &roots, f64::sqrt);
 }
 
-fn vectors() {
-    println!("# 01 3 perp, normalize, unit_perp, dot, x, squared length");
+fn vectors(rows: &mut Rows) {
+    rows.about("01 3 perp, normalize, unit_perp, dot, x, squared length");
     let pairs = [
         [3.0, 4.0, 1.0, -2.0],
         [0.1, 0.2, 0.3, 0.4],
@@ -105,18 +115,18 @@ fn vectors() {
     ];
     for p in pairs {
         let (a, b) = (point(&p), point(&p[2..]));
-        row("dot", &p, &bits(a.dot(b)));
-        row("perp_dot", &p, &bits(a.perp_dot(b)));
-        row("length_squared", &p[..2], &bits(a.length_squared()));
-        row("length", &p[..2], &bits(a.length()));
+        rows.add("dot", &p, &bits(a.dot(b)));
+        rows.add("perp_dot", &p, &bits(a.perp_dot(b)));
+        rows.add("length_squared", &p[..2], &bits(a.length_squared()));
+        rows.add("length", &p[..2], &bits(a.length()));
         let (unit, across) = (a.normalize(), a.unit_perp());
-        row("normalize", &p[..2], &words(&[unit.x, unit.y]));
-        row("unit_perp", &p[..2], &words(&[across.x, across.y]));
+        rows.add("normalize", &p[..2], &words(&[unit.x, unit.y]));
+        rows.add("unit_perp", &p[..2], &words(&[across.x, across.y]));
     }
 }
 
-fn angles() {
-    println!("# 01 3 atan, tan, Angle, Bulge to sweep, Normalizing");
+fn angles(rows: &mut Rows) {
+    rows.about("01 3 atan, tan, Angle, Bulge to sweep, Normalizing");
     let ratios = [
         0.0,
         -0.0,
@@ -143,7 +153,7 @@ fn angles() {
         0.9999999,
         1.0 / 3.0,
     ];
-    each("atan", &ratios, atan);
+    rows.each("atan", &ratios, atan);
     let sizes = [
         0.0,
         -0.0,
@@ -167,8 +177,8 @@ fn angles() {
         INF,
         NAN,
     ];
-    each("tan", &sizes, tan);
-    each("angle_from_bulge", &ratios, angle_from_bulge);
+    rows.each("tan", &sizes, tan);
+    rows.each("angle_from_bulge", &ratios, angle_from_bulge);
     let sweeps = [
         0.0,
         -0.0,
@@ -187,11 +197,11 @@ fn angles() {
         4.0 * atan(0.3),
         4.0 * atan(1000.0),
     ];
-    each("bulge_from_angle", &sweeps, bulge_from_angle);
+    rows.each("bulge_from_angle", &sweeps, bulge_from_angle);
     let turns = [
         0.0, -0.0, 1.0, -1.0, -TINY, -PI, TAU, -TAU, -7.0, 7.0, -1e-20, NAN, INF, -INF,
     ];
-    each("normalize_radians", &turns, normalize_radians);
+    rows.each("normalize_radians", &turns, normalize_radians);
     let spokes = [
         [0.0, 0.0],
         [-0.0, 0.0],
@@ -227,7 +237,7 @@ fn angles() {
     for s in spokes {
         for center in [[0.0, 0.0], [0.1, -7.5]] {
             let ends = [center[0], center[1], center[0] + s[0], center[1] + s[1]];
-            row(
+            rows.add(
                 "angle",
                 &ends,
                 &bits(angle(point(&center), point(&ends[2..]))),
@@ -236,8 +246,8 @@ fn angles() {
     }
 }
 
-fn points() {
-    println!("# 01 3 Point at t, Parameter of a point; squared distance");
+fn points(rows: &mut Rows) {
+    rows.about("01 3 Point at t, Parameter of a point; squared distance");
     for p in [
         [0.0, 0.0, 4.0, 2.0, 0.5],
         [1.0, 3.0, 0.3, 0.7, 0.1],
@@ -248,7 +258,7 @@ fn points() {
         [1.0, 2.0, 3.0, 4.0, -0.25],
     ] {
         let at = point_from_parametric(point(&p), point(&p[2..]), p[4]);
-        row("point_from_parametric", &p, &words(&[at.x, at.y]));
+        rows.add("point_from_parametric", &p, &words(&[at.x, at.y]));
     }
     for p in [
         [0.0, 0.0, 4.0, 2.0, 1.0, 9.0, 1e-5],
@@ -262,7 +272,7 @@ fn points() {
         [0.1, 0.2, -0.3, 0.4, 0.07, 0.6, 1e-9],
     ] {
         let t = parametric_from_point(point(&p), point(&p[2..]), point(&p[4..]), p[6]);
-        row("parametric_from_point", &p, &bits(t));
+        rows.add("parametric_from_point", &p, &bits(t));
     }
     for p in [
         [0.0, 0.0, 3.0, 4.0],
@@ -270,7 +280,7 @@ fn points() {
         [1e6, 1e6, -1e6, -1e6],
         [NAN, 0.0, 1.0, 1.0],
     ] {
-        row(
+        rows.add(
             "dist_squared",
             &p,
             &bits(dist_squared(point(&p), point(&p[2..]))),
@@ -278,8 +288,8 @@ fn points() {
     }
 }
 
-fn lines() {
-    println!("# 01 3 Lines: both ends of the first, both ends of the second, eps");
+fn lines(rows: &mut Rows) {
+    rows.about("01 3 Lines: both ends of the first, both ends of the second, eps");
     let e: f64 = 0.0078125;
     for p in [
         // True: inside, at each end, past each end by less than ε.
@@ -313,7 +323,7 @@ fn lines() {
         [0.0, 0.0, 4.0, 0.0, 5.0, 0.0, 9.0, 0.0, 1e-5],
         [0.0, 0.0, 4.0, 0.0, -9.0, 0.0, -1.0, 0.0, 1e-5],
         [0.0, 0.0, 4.0, 0.0, 3.0, 1.0, 7.0, 1.0, 1e-5],
-        [0.0, 0.0, 1e-6, 0.0, 3.0, 1.0, 7.0, 1.0, 1e-5],
+        [0.0, 0.0, 1e-6, 0.0, -1.0, 1.0, 3.0, 1.0, 1e-5],
         [0.0, 0.0, 4.0, 0.0, 1.0, 2.5e-6, 1.0, 2.5e-6, 1e-5],
         [0.0, 0.0, 0.0, 0.0, 1.0, 0.0, 2.0, 0.0, 1e-5],
         [NAN, 0.0, 4.0, 0.0, 1.0, -1.0, 1.0, 3.0, 1e-5],
@@ -327,12 +337,12 @@ fn lines() {
             LineLineIntr::FalseIntersect { seg1_t, seg2_t } => named("false", &[seg1_t, seg2_t]),
             LineLineIntr::Overlapping { .. } => named("overlapping", &[]),
         };
-        row("line_line_intr", &p, &output);
+        rows.add("line_line_intr", &p, &output);
     }
 }
 
-fn lines_and_circles() {
-    println!("# 01 3 Line and circle: both ends, radius, centre, eps");
+fn lines_and_circles(rows: &mut Rows) {
+    rows.about("01 3 Line and circle: both ends, radius, centre, eps");
     let e: f64 = 0.0078125;
     // A tolerance for which r+ε is rounded up: the line is then neither past nor touching.
     let up = (1..100)
@@ -377,12 +387,12 @@ fn lines_and_circles() {
             LineCircleIntr::TangentIntersect { t0 } => named("tangent", &[t0]),
             LineCircleIntr::TwoIntersects { t0, t1 } => named("two", &[t0, t1]),
         };
-        row("line_circle_intr", &p, &output);
+        rows.add("line_circle_intr", &p, &output);
     }
 }
 
-fn circles() {
-    println!("# 01 3 Circles: radius, centre, radius, centre, eps");
+fn circles(rows: &mut Rows) {
+    rows.about("01 3 Circles: radius, centre, radius, centre, eps");
     let e: f64 = 0.0078125;
     for p in [
         [1.0, 0.0, 0.0, 1.0, 1.0, 0.0, 1e-5],
@@ -422,53 +432,30 @@ fn circles() {
                 named("two", &[point1.x, point1.y, point2.x, point2.y])
             }
         };
-        row("circle_circle_intr", &p, &output);
+        rows.add("circle_circle_intr", &p, &output);
     }
 }
 
-fn segments() {
-    println!("# 01 3 Arc: x y bulge x y -> radius, centre");
-    println!(
-        "# 000 offset segment: x y bulge x y offset -> line: ends; arc: ends, centre, radius,"
+fn segments(rows: &mut Rows) {
+    rows.about("01 3 Arc: x y bulge x y -> radius, centre");
+    rows.about(
+        "000 offset segment: x y bulge x y offset -> line: ends; arc: ends, centre, radius,",
     );
-    println!("# start angle, sweep; collapsed: ends, tangent at start, tangent at end");
-    for p in [
-        [0.0, 0.0, 0.0, 4.0, 0.0, 1.0],
-        [0.0, 0.0, 0.0, 4.0, 0.0, -1.0],
-        [0.1, 0.2, 0.0, 0.7, -0.4, 0.3],
-        [0.0, 0.0, 9.999999e-9, 4.0, 0.0, 1.0],
-        [0.0, 0.0, 1e-8, 4.0, 0.0, 1.0],
-        [0.0, 0.0, -1e-8, 4.0, 0.0, 1.0],
-        [0.0, 0.0, 1.0, 4.0, 0.0, 1.0],
-        [0.0, 0.0, -1.0, 4.0, 0.0, 1.0],
-        [0.0, 0.0, 1.0, 4.0, 0.0, -1.0],
-        [0.1, -0.3, 0.6, 1.7, 0.4, 0.2],
-        [0.1, -0.3, -0.6, 1.7, 0.4, 0.2],
-        [0.0, 0.0, QUARTER, 1.0, 1.0, 0.5],
-        [0.0, 0.0, -3.0, 1.0, 1.0, 0.5],
-        // Radius 2: used up, all but used up by 1e-8 and a little more, past zero.
-        [0.0, 0.0, 1.0, 4.0, 0.0, 2.0],
-        [0.0, 0.0, 1.0, 4.0, 0.0, 1.99999999],
-        [0.0, 0.0, 1.0, 4.0, 0.0, 1.999999989],
-        [0.0, 0.0, 1.0, 4.0, 0.0, 3.0],
-        [0.0, 0.0, -1.0, 4.0, 0.0, -3.0],
-        [0.3, 0.1, -0.7, 1.1, 0.9, -2.0],
-        [1.0, 1.0, 0.0, 1.0, 1.0, 1.0],
-        [1.0, 1.0, 0.5, 1.0, 1.0, 1.0],
-        [0.0, 0.0, 1000.0, 1.0, 0.0, 0.25],
-        [-1e6, 0.0, 1.1e-8, 1e6, 0.0, 0.001],
-        [NAN, 0.0, 0.0, 1.0, 0.0, 1.0],
-        [0.0, 0.0, NAN, 1.0, 0.0, 1.0],
-    ] {
-        let (v1, v2) = (
-            PlineVertex::new(p[0], p[1], p[2]),
-            PlineVertex::new(p[3], p[4], 0.0),
-        );
+    rows.about("start angle, sweep; collapsed: ends, tangent at start, tangent at end");
+    for p in SEGMENTS {
+        let (v1, v2) = vertices(&p);
         let (radius, center) = seg_arc_radius_and_center(v1, v2);
         let output = words(&[radius, center.x, center.y]);
-        row("seg_arc_radius_and_center", &p[..5], &output);
-        row("offset_segment", &p, &segment(v1, v2, p[5]));
+        rows.add("seg_arc_radius_and_center", &p[..5], &output);
+        rows.add("offset_segment", &p, &segment(v1, v2, p[5]));
     }
+}
+
+pub fn vertices(p: &[f64; 6]) -> (PlineVertex, PlineVertex) {
+    (
+        PlineVertex::new(p[0], p[1], p[2]),
+        PlineVertex::new(p[3], p[4], 0.0),
+    )
 }
 
 fn segment(v1: PlineVertex, v2: PlineVertex, offset: f64) -> String {

@@ -1,11 +1,20 @@
-//! Prints rows of inputs and the oracle's outputs for each layer: `function inputs -> outputs`,
-//! numbers as 64 bits in sixteen hexadecimal digits, any NaN as 7ff8000000000000. A row that
-//! starts with `#` says what the next rows reach.
+//! Rows of inputs and the oracle's outputs for each layer.
+//!
+//! With no word it prints them: `function inputs -> outputs`, numbers as 64 bits in sixteen
+//! hexadecimal digits, any NaN as 7ff8000000000000. A row that starts with `#` says what the next
+//! rows reach. With the name of a test program and its folder it writes that program's stored
+//! input and output.
 
 #[cfg(with_000)]
 mod jobs;
 #[cfg(with_000)]
+mod joins;
+#[cfg(with_000)]
 mod layers;
+#[cfg(with_000)]
+mod programs;
+#[cfg(with_000)]
+mod rows;
 
 #[cfg(not(with_000))]
 fn main() {
@@ -14,7 +23,18 @@ fn main() {
 }
 
 #[cfg(with_000)]
-fn main() {
-    layers::print();
-    jobs::print();
+fn main() -> std::io::Result<()> {
+    let given: Vec<String> = std::env::args().skip(1).collect();
+    match given.as_slice() {
+        [] => {
+            layers::rows().print();
+            jobs::print();
+            Ok(())
+        }
+        [program, folder] => programs::write(program, folder.as_ref()),
+        _ => {
+            eprintln!("samples: [PROGRAM FOLDER]");
+            std::process::exit(2);
+        }
+    }
 }

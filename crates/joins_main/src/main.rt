@@ -1,0 +1,354 @@
+// The public functions of `segments`, `meetings` and `joins` on stored rows that reach each branch.
+// A row is twenty-four words of eight bytes, highest byte first: the number of a function, then the
+// bits of its arguments. The stored output comes from 01's arithmetic in Rust (`oracle`, `samples`).
+ghost use Prim.Native.Nat.{_<_};
+use joins::JoinBoundary;
+use joins::JoinCause;
+use joins::JoinClass;
+use meetings::ArcParam;
+use meetings::Met;
+use meetings::Param;
+use segments::PlineVertex;
+use segments::RawOffsetArc;
+use segments::RawOffsetLine;
+use segments::RawOffsetSeg;
+use vectors::Vector2;
+
+fn joined(a: u8, b: u8, c: u8, d: u8) -> u64 {
+    (a as u64) << 24 | (b as u64) << 16 | (c as u64) << 8 | (d as u64)
+}
+
+fn word(row: &[u8; 192], k: usize) -> u64
+    requires { ⌜ k < 24 ⌝ }
+{
+    let i = 8 * k;
+    let high = joined(row[i], row[i + 1], row[i + 2], row[i + 3]);
+    let low = joined(row[i + 4], row[i + 5], row[i + 6], row[i + 7]);
+    high << 32 | low
+}
+
+fn number(row: &[u8; 192], k: usize) -> f64
+    requires { ⌜ k < 24 ⌝ }
+{
+    bits::number_of(word(row, k))
+}
+
+fn vector(row: &[u8; 192], k: usize) -> Vector2
+    requires { ⌜ k < 23 ⌝ }
+{
+    Vector2 {
+        x: number(row, k),
+        y: number(row, k + 1),
+    }
+}
+
+fn vertex(row: &[u8; 192], k: usize) -> PlineVertex
+    requires { ⌜ k < 22 ⌝ }
+{
+    PlineVertex {
+        x: number(row, k),
+        y: number(row, k + 1),
+        bulge: number(row, k + 2),
+    }
+}
+
+// A vertex with no bulge: it ends a segment.
+fn end_vertex(row: &[u8; 192], k: usize) -> PlineVertex
+    requires { ⌜ k < 23 ⌝ }
+{
+    PlineVertex::from_vector2(vector(row, k), 0.0)
+}
+
+fn line(row: &[u8; 192], k: usize) -> RawOffsetLine
+    requires { ⌜ k < 21 ⌝ }
+{
+    RawOffsetLine {
+        start: vector(row, k),
+        end: vector(row, k + 2),
+    }
+}
+
+fn arc(row: &[u8; 192], k: usize) -> RawOffsetArc
+    requires { ⌜ k < 16 ⌝ }
+{
+    RawOffsetArc {
+        start: vector(row, k),
+        end: vector(row, k + 2),
+        center: vector(row, k + 4),
+        radius: number(row, k + 6),
+        start_angle: number(row, k + 7),
+        sweep: number(row, k + 8),
+    }
+}
+
+fn print(text: &[u8]) {
+    let _written = io::write_all(1, text);
+}
+
+fn print_number(x: f64) {
+    print(b" ");
+    let _written = io::print_hex(1, bits::bits_of(x), 16);
+}
+
+fn print_vector(v: Vector2) {
+    print_number(v.x);
+    print_number(v.y);
+}
+
+fn print_bool(x: bool) {
+    if x {
+        print(b" true");
+    } else {
+        print(b" false");
+    }
+}
+
+fn seg_arc_radius_and_center(row: &[u8; 192]) {
+    let support = segments::seg_arc_radius_and_center(vertex(row, 1), end_vertex(row, 4));
+    print(b"seg_arc_radius_and_center");
+    print_number(support.radius);
+    print_vector(support.center);
+}
+
+// The offset segment of the words 1 to 6.
+fn segment(row: &[u8; 192]) -> RawOffsetSeg {
+    segments::create_untrimmed_raw_offset_seg(vertex(row, 1), end_vertex(row, 4), number(row, 6))
+}
+
+fn offset_segment(row: &[u8; 192]) {
+    let seg = segment(row);
+    print(b"offset_segment");
+    match seg {
+        RawOffsetSeg::Line(line) => {
+            print(b" line");
+            print_vector(line.start);
+            print_vector(line.end);
+        }
+        RawOffsetSeg::Arc(arc) => {
+            print(b" arc");
+            print_arc(arc);
+        }
+        RawOffsetSeg::Collapsed(arc) => {
+            print(b" collapsed");
+            print_vector(arc.start);
+            print_vector(arc.end);
+            print_vector(arc.start_tangent);
+            print_vector(arc.end_tangent);
+        }
+    }
+}
+
+fn print_arc(arc: RawOffsetArc) {
+    print_vector(arc.start);
+    print_vector(arc.end);
+    print_vector(arc.center);
+    print_number(arc.radius);
+    print_number(arc.start_angle);
+    print_number(arc.sweep);
+}
+
+fn tangents(row: &[u8; 192]) {
+    let seg = segment(row);
+    print(b"tangents");
+    print_vector(seg.start_tangent());
+    print_vector(seg.end_tangent());
+}
+
+fn span(row: &[u8; 192]) {
+    let seg = segment(row);
+    let from = number(row, 7);
+    let to = number(row, 8);
+    print(b"span");
+    print_bool(seg.span_is_invalid(from, to));
+    print_number(seg.span_bulge(from, to));
+}
+
+fn print_param(param: Param) {
+    match param {
+        Param::Usable(t) => print_number(t),
+        Param::Missed => print(b" missed"),
+    }
+}
+
+fn usable_line_param(row: &[u8; 192]) {
+    let start = vector(row, 2);
+    let end = vector(row, 4);
+    let length_squared = end.sub(start).length_squared();
+    print(b"usable_line_param");
+    print_param(meetings::usable_line_param(number(row, 1), length_squared, number(row, 6)));
+}
+
+fn usable_arc_param(row: &[u8; 192]) {
+    let way = meetings::usable_arc_param(arc(row, 1), vector(row, 10), number(row, 12));
+    print(b"usable_arc_param");
+    print_way(way);
+    print_param(way.param());
+}
+
+fn print_way(way: ArcParam) {
+    match way {
+        ArcParam::StartMatched => print(b" start"),
+        ArcParam::EndMatched => print(b" end"),
+        ArcParam::Inside(_) => print(b" inside"),
+        ArcParam::PastEnd => print(b" past"),
+        ArcParam::OffArc => print(b" off"),
+    }
+}
+
+fn squared_distances_equal(row: &[u8; 192]) {
+    print(b"squared_distances_equal");
+    print_bool(meetings::squared_distances_equal(number(row, 1), number(row, 2), number(row, 3)));
+}
+
+fn print_met(met: Met) {
+    match met {
+        Met::At(meeting) => {
+            print(b" at");
+            print_vector(meeting.point);
+            print_number(meeting.current_param);
+            print_number(meeting.next_param);
+        }
+        Met::NoMeeting => print(b" none"),
+        Met::CandidatesMissed => print(b" missed"),
+    }
+}
+
+// The words of a shared vertex stand there, and are not asked for.
+fn line_line_meeting(row: &[u8; 192]) {
+    print(b"line_line_meeting");
+    print_met(meetings::line_line_meeting(line(row, 1), line(row, 5), number(row, 11)));
+}
+
+fn line_arc_meeting(row: &[u8; 192]) {
+    print(b"line_arc_meeting");
+    print_met(meetings::line_arc_meeting(
+        line(row, 1),
+        arc(row, 5),
+        vector(row, 14),
+        number(row, 16),
+    ));
+}
+
+fn arc_line_meeting(row: &[u8; 192]) {
+    print(b"arc_line_meeting");
+    print_met(meetings::arc_line_meeting(
+        arc(row, 1),
+        line(row, 10),
+        vector(row, 14),
+        number(row, 16),
+    ));
+}
+
+fn arc_arc_meeting(row: &[u8; 192]) {
+    print(b"arc_arc_meeting");
+    print_met(meetings::arc_arc_meeting(
+        arc(row, 1),
+        arc(row, 10),
+        vector(row, 19),
+        number(row, 21),
+    ));
+}
+
+fn round(row: &[u8; 192]) {
+    let boundary = JoinBoundary::round(
+        JoinClass::OuterRound,
+        vector(row, 1),
+        vector(row, 3),
+        vector(row, 5),
+        number(row, 7),
+    );
+    print(b"round");
+    print_number(boundary.connector_bulge);
+}
+
+fn print_cause(cause: JoinCause) {
+    match cause {
+        JoinCause::Coincident => print(b" coincident"),
+        JoinCause::ZeroTangent => print(b" zero_tangent"),
+        JoinCause::SameDirection => print(b" same_direction"),
+        JoinCause::Reversal => print(b" reversal"),
+        JoinCause::Outer => print(b" outer"),
+        JoinCause::Inner => print(b" inner"),
+    }
+}
+
+fn print_class(class: JoinClass) {
+    match class {
+        JoinClass::Coincident => print(b" Coincident"),
+        JoinClass::Trimmed => print(b" Trimmed"),
+        JoinClass::OuterRound => print(b" OuterRound"),
+        JoinClass::ReversalRound => print(b" ReversalRound"),
+        JoinClass::InvalidInnerGap => print(b" InvalidInnerGap"),
+        JoinClass::InvalidDegenerateGap => print(b" InvalidDegenerateGap"),
+    }
+}
+
+fn print_boundary(boundary: JoinBoundary) {
+    let class = boundary.class;
+    print_class(class);
+    print_vector(boundary.current_end);
+    print_number(boundary.current_param);
+    print_vector(boundary.next_start);
+    print_number(boundary.next_param);
+    print_number(boundary.connector_bulge);
+    print_bool(boundary.connector_is_invalid());
+}
+
+// Three vertices: the segments between them are joined at the second.
+fn join(row: &[u8; 192]) {
+    let shared = vertex(row, 4);
+    let offset = number(row, 9);
+    let eps = number(row, 10);
+    let current = segments::create_untrimmed_raw_offset_seg(vertex(row, 1), shared, offset);
+    let next = segments::create_untrimmed_raw_offset_seg(shared, end_vertex(row, 7), offset);
+    print(b"join");
+    print_cause(joins::classify_join(current, next, offset, eps));
+    print_boundary(joins::analyze_join(current, next, shared.pos(), offset, eps));
+}
+
+fn segment_row(function: u64, row: &[u8; 192]) {
+    match function {
+        0 => seg_arc_radius_and_center(row),
+        1 => offset_segment(row),
+        2 => tangents(row),
+        _ => span(row),
+    }
+}
+
+fn join_row(function: u64, row: &[u8; 192]) {
+    match function {
+        4 => usable_line_param(row),
+        5 => usable_arc_param(row),
+        6 => squared_distances_equal(row),
+        7 => line_line_meeting(row),
+        8 => line_arc_meeting(row),
+        9 => arc_line_meeting(row),
+        10 => arc_arc_meeting(row),
+        11 => round(row),
+        _ => join(row),
+    }
+}
+
+// Answers one row, or says that there is none.
+fn answer() -> bool {
+    let mut row = [0u8; 192];
+    if io::read_full(0, &mut row) < 192 {
+        return false;
+    }
+    let function = word(&row, 0);
+    if function < 4 {
+        segment_row(function, &row);
+    } else {
+        join_row(function, &row);
+    }
+    print(b"\n");
+    true
+}
+
+fn main() {
+    for _ in 0..4096usize {
+        if !answer() {
+            return;
+        }
+    }
+}

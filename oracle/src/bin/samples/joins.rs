@@ -1,0 +1,366 @@
+//! The parts of a join, and joins of three vertices taken from the sample jobs.
+
+use crate::jobs;
+use crate::layers::{SEGMENTS, vertices};
+use crate::rows::{Rows, named, point, words};
+use oracle::core::math::Vector2;
+use oracle::polyline::PlineVertex;
+use oracle::stage::Job;
+use oracle::text::bits;
+use oracle::traced::parts::{
+    Fragment, Side, arc_param, equally_near, line_param, meeting, round, span, tangents,
+};
+use oracle::traced::{Table, Trace};
+use std::f64::consts::{FRAC_1_SQRT_2, FRAC_PI_2, PI};
+
+const INF: f64 = f64::INFINITY;
+const NAN: f64 = f64::NAN;
+
+/// A tolerance whose square is exact.
+const E: f64 = 0.0078125;
+
+/// A quarter of the unit circle, from (1, 0) to (0, 1).
+const LEFT: [f64; 9] = [1.0, 0.0, 0.0, 1.0, 0.0, 0.0, 1.0, 0.0, FRAC_PI_2];
+
+/// The same, backwards.
+const RIGHT: [f64; 9] = [0.0, 1.0, 1.0, 0.0, 0.0, 0.0, 1.0, FRAC_PI_2, -FRAC_PI_2];
+
+/// Another quarter of that circle, from (−1, 0) to (0, −1).
+const OPPOSITE: [f64; 9] = [-1.0, 0.0, 0.0, -1.0, 0.0, 0.0, 1.0, PI, FRAC_PI_2];
+
+/// The right half of the unit circle, from (0, −1) to (0, 1).
+const HALF: [f64; 9] = [0.0, -1.0, 0.0, 1.0, 0.0, 0.0, 1.0, -FRAC_PI_2, PI];
+
+/// The left half of the circle beside it, which it touches in (1, 0); also halved there.
+const TOUCHING: [f64; 9] = [2.0, 1.0, 2.0, -1.0, 2.0, 0.0, 1.0, FRAC_PI_2, PI];
+const UPPER: [f64; 9] = [2.0, 1.0, 1.0, NEAR, 2.0, 0.0, 1.0, FRAC_PI_2, FRAC_PI_2];
+const LOWER: [f64; 9] = [1.0, NEAR, 2.0, -1.0, 2.0, 0.0, 1.0, PI, FRAC_PI_2];
+
+/// Near zero and not at it.
+const NEAR: f64 = 1e-6;
+
+/// An arc with its end points other than where its angles have them.
+const fn ending(arc: [f64; 9], which: usize, x: f64, y: f64) -> Side {
+    let mut arc = arc;
+    arc[2 * which] = x;
+    arc[2 * which + 1] = y;
+    Side::Arc(arc)
+}
+
+/// Meetings near an end and not at it, on each side; then arcs of one circle.
+const BESIDE: [[Side; 2]; 15] = [
+    [ending(LEFT, 0, 1.0, NEAR), Side::Arc(TOUCHING)],
+    [ending(RIGHT, 1, 1.0, NEAR), Side::Arc(TOUCHING)],
+    [Side::Arc(HALF), Side::Arc(LOWER)],
+    [Side::Arc(HALF), Side::Arc(UPPER)],
+    [
+        Side::Line([1.0, -1.0, 1.0, 1.0]),
+        ending(LEFT, 0, 1.0, NEAR),
+    ],
+    [
+        Side::Line([1.0, -1.0, 1.0, 1.0]),
+        ending(RIGHT, 1, 1.0, NEAR),
+    ],
+    [Side::Line([1.0, NEAR, 1.0, 1.0]), Side::Arc(HALF)],
+    [Side::Line([1.0, -1.0, 1.0, -NEAR]), Side::Arc(HALF)],
+    [
+        ending(LEFT, 0, 1.0, NEAR),
+        Side::Line([1.0, 1.0, 1.0, -1.0]),
+    ],
+    [
+        ending(RIGHT, 1, 1.0, NEAR),
+        Side::Line([1.0, 1.0, 1.0, -1.0]),
+    ],
+    [Side::Arc(HALF), Side::Line([1.0, NEAR, 1.0, 1.0])],
+    [Side::Arc(HALF), Side::Line([1.0, -1.0, 1.0, -NEAR])],
+    [Side::Arc(LEFT), Side::Arc(OPPOSITE)],
+    [Side::Arc(RIGHT), Side::Arc(OPPOSITE)],
+    [Side::Arc(LEFT), Side::Arc(RIGHT)],
+];
+
+pub fn rows() -> Rows {
+    let mut rows = Rows::default();
+    segments(&mut rows);
+    line_params(&mut rows);
+    arc_params(&mut rows);
+    distances(&mut rows);
+    meetings(&mut rows);
+    rounds(&mut rows);
+    joins(&mut rows);
+    rows
+}
+
+fn truth(holds: bool) -> &'static str {
+    if holds { "true" } else { "false" }
+}
+
+fn segments(rows: &mut Rows) {
+    for p in SEGMENTS {
+        let (v1, v2) = vertices(&p);
+        let [start, end] = tangents(v1, v2, p[5]);
+        let output = words(&[start.x, start.y, end.x, end.y]);
+        rows.add("tangents", &p, &output);
+    }
+    let parts = [
+        [0.0, 1.0],
+        [0.25, 0.75],
+        [0.75, 0.25],
+        [0.5, 0.5],
+        [NAN, 1.0],
+    ];
+    for p in SEGMENTS {
+        let (v1, v2) = vertices(&p);
+        for [from, to] in parts {
+            let (bulge, invalid) = span(v1, v2, p[5], from, to);
+            let inputs = [p.as_slice(), &[from, to]].concat();
+            rows.add("span", &inputs, &named(truth(invalid), &[bulge]));
+        }
+    }
+}
+
+fn line_params(rows: &mut Rows) {
+    for (param, line, eps) in [
+        // Inside, at both ends, and no number.
+        (0.5, [0.0, 0.0, 4.0, 3.0], 1e-5),
+        (0.0, [0.0, 0.0, 4.0, 3.0], 1e-5),
+        (-0.0, [0.0, 0.0, 4.0, 3.0], 1e-5),
+        (1.0, [0.0, 0.0, 4.0, 3.0], 1e-5),
+        (NAN, [0.0, 0.0, 4.0, 3.0], 1e-5),
+        // Past an end by less than ε, by ε, by more.
+        (-1e-6, [0.0, 0.0, 4.0, 3.0], 1e-5),
+        (1.000001, [0.0, 0.0, 4.0, 3.0], 1e-5),
+        (-E, [0.0, 0.0, 1.0, 0.0], E),
+        ((-E).next_down(), [0.0, 0.0, 1.0, 0.0], E),
+        (1.0 + E, [0.0, 0.0, 1.0, 0.0], E),
+        ((1.0 + E).next_up(), [0.0, 0.0, 1.0, 0.0], E),
+        (-0.5, [0.0, 0.0, 4.0, 3.0], 1e-5),
+        (1.5, [0.0, 0.0, 4.0, 3.0], 1e-5),
+        // A line of no length, no number, endless; no tolerance.
+        (7.0, [1.0, 2.0, 1.0, 2.0], 1e-5),
+        (-7.0, [NAN, 2.0, 1.0, 2.0], 1e-5),
+        (INF, [0.0, 0.0, 4.0, 3.0], 1e-5),
+        (2.0, [0.0, 0.0, 4.0, 3.0], NAN),
+    ] {
+        let usable = line_param(param, [point(&line), point(&line[2..])], eps);
+        let output = usable.map_or("missed".to_string(), bits);
+        let inputs = [&[param], line.as_slice(), &[eps]].concat();
+        rows.add("usable_line_param", &inputs, &output);
+    }
+}
+
+fn arc_params(rows: &mut Rows) {
+    let half = FRAC_1_SQRT_2;
+    // Not on its own circle: a point past the end is then within ε along the arc alone.
+    let mut small = LEFT;
+    small[6] = 0.5;
+    let mut straight = LEFT;
+    straight[8] = 0.0;
+    for (arc, at, eps) in [
+        (LEFT, [1.0, 0.0], 1e-5),
+        (LEFT, [1.000001, -0.000001], 1e-5),
+        (LEFT, [1.0 + E, 0.0], E),
+        (LEFT, [1.0, -E], E),
+        (LEFT, [0.0, 1.0], 1e-5),
+        (LEFT, [-0.000001, 1.000001], 1e-5),
+        (LEFT, [half, half], 1e-5),
+        (LEFT, [0.6, 0.8], 1e-9),
+        (LEFT, [-1.0, 0.0], 1e-5),
+        (LEFT, [half, -half], 1e-5),
+        (LEFT, [-half, -half], 1e-5),
+        (LEFT, [0.0, 0.0], 1e-5),
+        (LEFT, [NAN, 0.0], 1e-5),
+        (LEFT, [0.6, 0.8], NAN),
+        (LEFT, [-0.6, 0.8], NAN),
+        (RIGHT, [0.0, 1.0], 1e-5),
+        (RIGHT, [1.0, 0.0], 1e-5),
+        (RIGHT, [half, half], 1e-5),
+        (RIGHT, [0.8, 0.6], 1e-9),
+        (RIGHT, [-half, half], 1e-5),
+        (RIGHT, [half, -half], 1e-5),
+        (OPPOSITE, [-half, -half], 1e-5),
+        (OPPOSITE, [half, half], 1e-5),
+        (small, [-E, 1.0], E),
+        (small, [-2.0 * E, 1.0], E),
+        (small, [-3.0 * E, 1.0], E),
+        (straight, [2.0, 0.0], 1e-5),
+        (straight, [2.0, 1.0], 1e-5),
+    ] {
+        let (way, param) = arc_param(&arc, point(&at), eps);
+        let output = format!("{way} {}", param.map_or("missed".to_string(), bits));
+        let inputs = [arc.as_slice(), &at, &[eps]].concat();
+        rows.add("usable_arc_param", &inputs, &output);
+    }
+}
+
+fn distances(rows: &mut Rows) {
+    for p in [
+        [0.0, 0.0, 1e-5],
+        [0.125, 0.125, 0.5],
+        [0.25, 0.0, 0.5],
+        [0.0, 0.25_f64.next_up(), 0.5],
+        [0.125, 0.125_f64.next_up(), 0.5],
+        [1.0, 1.0, 1e-5],
+        [1.0, 2.25, 0.5],
+        [1.0, 2.25_f64.next_down(), 0.5],
+        [2.25, 1.0, 0.5],
+        [2.25_f64.next_down(), 1.0, 0.5],
+        [1.0, 4.0, 1e-5],
+        [0.3, 0.30000001, 1e-5],
+        [0.0, 1.0, 1e-5],
+        [NAN, 1.0, 1e-5],
+        [1.0, 1.0, NAN],
+        [INF, INF, 1e-5],
+    ] {
+        let output = truth(equally_near(p[0], p[1], p[2]));
+        rows.add("squared_distances_equal", &p, output);
+    }
+}
+
+fn meetings(rows: &mut Rows) {
+    for fragment in fragments() {
+        if let Some([current, next]) = fragment.sides() {
+            let shared = fragment.vertices[1].pos();
+            meet(rows, current, next, shared, fragment.eps);
+        }
+    }
+    let shared = Vector2::new(1.0, 0.0);
+    for [current, next] in BESIDE {
+        meet(rows, current, next, shared, 1e-5);
+    }
+}
+
+fn meet(rows: &mut Rows, current: Side, next: Side, shared: Vector2, eps: f64) {
+    let function = match (current, next) {
+        (Side::Line(_), Side::Line(_)) => "line_line_meeting",
+        (Side::Line(_), Side::Arc(_)) => "line_arc_meeting",
+        (Side::Arc(_), Side::Line(_)) => "arc_line_meeting",
+        (Side::Arc(_), Side::Arc(_)) => "arc_arc_meeting",
+    };
+    let output = match meeting(&current, &next, shared, eps) {
+        Ok((at, on_current, on_next)) => named("at", &[at.x, at.y, on_current, on_next]),
+        Err(way) => way.to_string(),
+    };
+    let numbers = [
+        current.numbers(),
+        next.numbers(),
+        &[shared.x, shared.y, eps],
+    ];
+    rows.add(function, &numbers.concat(), &output);
+}
+
+fn rounds(rows: &mut Rows) {
+    // The product of this direction with itself is rounded to two units above one.
+    let (x, y) = (1.473762804231308, -0.2860771949541574);
+    for p in [
+        [1.0, 0.0, 1.0, 0.5, 0.0, 0.0, 1.0],
+        [1.0, 0.0, 1.0, 0.5, 0.0, 0.0, -1.0],
+        [1.0, 0.0, 0.0, 1.0, 0.0, 0.0, 0.0],
+        [1.0, 0.0, 0.0, -1.0, 0.0, 0.0, -0.0],
+        [1.0, 0.0, -1.0, 0.5, 0.0, 0.0, 1.0],
+        [1.0, 0.0, -1.0, 0.5, 0.0, 0.0, NAN],
+        [1.0, 0.0, -1.0, 0.0, 0.0, 0.0, 1.0],
+        [0.1, 0.2, 0.7, -0.4, 0.3, 0.3, -0.5],
+        // Both bounds of the cosine, the sine's, and no direction.
+        [x, y, -x, -y, 0.0, 0.0, 1.0],
+        [x, y, x, y, 0.0, 0.0, 1.0],
+        [x, y, x, y, 0.0, 0.0, -1.0],
+        [x, y, -y, x, 0.0, 0.0, 1.0],
+        [x, y, x, y, x, y, 1.0],
+        [NAN, y, x, y, 0.0, 0.0, 1.0],
+    ] {
+        let bulge = round(point(&p), point(&p[2..]), point(&p[4..]), p[6]);
+        rows.add("round", &p, &bits(bulge));
+    }
+}
+
+fn joins(rows: &mut Rows) {
+    for fragment in fragments() {
+        let [a, b, c] = fragment.vertices;
+        let join = fragment.join(&mut Trace::new());
+        let (end, start) = (join.end, join.start);
+        let numbers = [
+            end.x,
+            end.y,
+            join.end_param,
+            start.x,
+            start.y,
+            join.start_param,
+            join.bulge,
+        ];
+        let (cause, boundary) = (join.cause, named(join.class, &numbers));
+        let output = format!("{cause} {boundary} {}", truth(join.invalid));
+        let inputs = [
+            a.x,
+            a.y,
+            a.bulge,
+            b.x,
+            b.y,
+            b.bulge,
+            c.x,
+            c.y,
+            fragment.offset,
+            fragment.eps,
+        ];
+        rows.add("join", &inputs, &output);
+    }
+}
+
+/// A right angle whose two forms of the connector's bulge differ.
+const RIGHT_ANGLE: Fragment = Fragment {
+    vertices: [
+        PlineVertex {
+            x: 3.8369140625,
+            y: 1.2086029052734375,
+            bulge: 0.0,
+        },
+        PlineVertex {
+            x: 0.0,
+            y: 0.0,
+            bulge: 0.0,
+        },
+        PlineVertex {
+            x: -1.2086029052734375,
+            y: 3.8369140625,
+            bulge: 0.0,
+        },
+    ],
+    offset: 1.0,
+    eps: 1e-5,
+};
+
+/// Each three vertices in a row of each sample job, and one more.
+fn fragments() -> impl Iterator<Item = Fragment> {
+    let of_jobs = jobs::all().flat_map(|job| {
+        let vertices = walked(&job);
+        let windows: Vec<_> = vertices.windows(3).map(|v| [v[0], v[1], v[2]]).collect();
+        windows.into_iter().map(move |vertices| Fragment {
+            vertices,
+            offset: job.offset,
+            eps: job.eps,
+        })
+    });
+    of_jobs.chain([RIGHT_ANGLE])
+}
+
+/// The vertices, and of a closed job the first two once more.
+fn walked(job: &Job) -> Vec<PlineVertex> {
+    let triples = job.source.chunks_exact(3);
+    let mut vertices: Vec<_> = triples
+        .map(|v| PlineVertex::new(v[0], v[1], v[2]))
+        .collect();
+    if job.closed && vertices.len() > 1 {
+        vertices.extend_from_within(..2);
+    }
+    vertices
+}
+
+/// Prints which tests and events the joins reach.
+pub fn print_reached() {
+    let mut table = Table::default();
+    for fragment in fragments() {
+        let mut trace = Trace::new();
+        fragment.join(&mut trace);
+        table.add(&trace);
+    }
+    table.print();
+}
