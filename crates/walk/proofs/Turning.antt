@@ -1,0 +1,89 @@
+-- The walker's turns draw the moves of the rule: the segment that it carries is the one worked out anew from its vertices, at each turn. Assumes nothing.
+use mathlib.Core.Path.{_≡_, refl, sym, ap, _∙_}
+use mathlib.Core.List.{List, [], _∷_, _++_}
+use Prim.Native.Nat.{ℕ, suc, _+_, _*_}
+use native.Mathlib.Numerals.{add-one}
+use native.Mathlib.Omega.{arith}
+use lib.ListN.{length}
+use lib.Ieee.{Float}
+use Rattle.segments.specs.declared.PlineVertex.{PlineVertex}
+use Rattle.segments.specs.declared.RawOffsetSeg.{RawOffsetSeg}
+use Rattle.segments.specs.Segment.{offsetSeg}
+use Rattle.emission.specs.declared.Move.{Move}
+use Rattle.emission.specs.Steps.{Sheet, emits}
+use Rattle.emission.proofs.Emitted.{emits-append}
+use Rattle.walk.specs.declared.Walker.{Walker}
+use Rattle.walk.specs.Walk.{spanMove, connectorMoves, joinAt, walk}
+use Rattle.walk.specs.Steps.{walkerAt, turnOf, Trail, advanced, advances, ends}
+
+module _ (offset ε : Float) where
+  -- the walker after a turn for each vertex, and the moves of these turns
+  unfoldable pub turned : List PlineVertex → Walker → Walker
+  turned [] w = w
+  turned (c ∷ vs) w = turned vs (turnOf w c offset ε .walker)
+
+  unfoldable pub turnMoves : List PlineVertex → Walker → List Move
+  turnMoves [] w = []
+  turnMoves (c ∷ vs) w = turnOf w c offset ε .span ∷ turnOf w c offset ε .connector ∷ turnMoves vs (turnOf w c offset ε .walker)
+
+  -- the code's turns draw them
+  pub advances-moves : (vs : List PlineVertex) (r : Trail) → advances offset ε vs r ≡ record { walker = turned vs (r .walker); sheet = emits ε (turnMoves vs (r .walker)) (r .sheet) }
+  unfolding advances advanced turned turnMoves emits
+  advances-moves [] r = refl
+  advances-moves (c ∷ vs) r = advances-moves vs (advanced offset ε c r)
+
+  pub length-turns : (vs : List PlineVertex) (w : Walker) → length (turnMoves vs w) ≡ 2 * length vs
+  unfolding turnMoves
+  length-turns [] w = refl
+  length-turns (c ∷ vs) w = let l = length-turns vs (turnOf w c offset ε .walker) in omega arith
+
+  pub numbered : (vs : List PlineVertex) (w : Walker) → turned vs w .source .0 ≡ w .source .0 + length vs
+  unfolding turned turnOf
+  numbered [] w = omega arith
+  numbered (c ∷ vs) w = let l = numbered vs (turnOf w c offset ε .walker) in omega arith
+
+  pub advances-snoc : (vs : List PlineVertex) (c : PlineVertex) (r : Trail) → advances offset ε (vs ++ c ∷ []) r ≡ advanced offset ε c (advances offset ε vs r)
+  unfolding advances
+  advances-snoc [] c r = refl
+  advances-snoc (d ∷ vs) c r = advances-snoc vs c (advanced offset ε d r)
+
+  pub advances-one : (c : PlineVertex) (r : Trail) → advances offset ε (c ∷ []) r ≡ advanced offset ε c r
+  unfolding advances
+  advances-one c r = refl
+
+  -- the next walker stands at the next segment, worked out anew
+  pub turn-walker : (i : ℕ) (a b c : PlineVertex) (t : Float) → turnOf (walkerAt i a b t offset) c offset ε .walker ≡ walkerAt (suc i) b c (joinAt offset ε a b c .«next_param») offset
+  unfolding turnOf walkerAt joinAt
+  turn-walker i a b c t = rw add-one
+
+  -- its moves are the rule's
+  turn-moves : (i : ℕ) (a b c : PlineVertex) (t : Float) (ms : List Move)
+      → spanMove i (offsetSeg a b offset) t (joinAt offset ε a b c .«current_end») (joinAt offset ε a b c .«current_param») ∷ connectorMoves i (joinAt offset ε a b c) ++ ms
+      ≡ turnOf (walkerAt i a b t offset) c offset ε .span ∷ turnOf (walkerAt i a b t offset) c offset ε .connector ∷ ms
+  unfolding turnOf walkerAt joinAt connectorMoves
+  turn-moves i a b c t ms = refl
+
+  -- ---- the rule's walk is the moves of the turns, and then the last ones
+  module _ (last : ℕ → RawOffsetSeg → Float → List Move) where
+    abbrev lastOf : Walker → List Move
+    lastOf w = last (w .source .0) (w .current) (w .«start_param»)
+
+    abbrev onward : List PlineVertex → Walker → List Move
+    onward vs w = turnMoves vs w ++ lastOf (turned vs w)
+
+    pub walk-turns : (vs : List PlineVertex) (i : ℕ) (a b : PlineVertex) (t : Float)
+        → walk last offset ε i a b t vs ≡ onward vs (walkerAt i a b t offset)
+    unfolding walk turned turnMoves
+    walk-turns [] i a b t = unfold walkerAt in refl
+    walk-turns (c ∷ vs) i a b t =
+        let j = joinAt offset ε a b c in
+        ap (λ (ms : List Move). spanMove i (offsetSeg a b offset) t (j .«current_end») (j .«current_param») ∷ connectorMoves i j ++ ms)
+        (walk-turns vs (suc i) b c (j .«next_param») ∙ ap (onward vs) (sym (turn-walker i a b c t)))
+        ∙ turn-moves i a b c t (onward vs (turnOf (walkerAt i a b t offset) c offset ε .walker))
+
+    pub walk-ends : (vs : List PlineVertex) (i : ℕ) (a b : PlineVertex) (t : Float) (s : Sheet)
+        → ends last ε (advances offset ε vs (record { walker = walkerAt i a b t offset; sheet = s })) ≡ emits ε (walk last offset ε i a b t vs) s
+    unfolding ends
+    walk-ends vs i a b t s =
+        let w = walkerAt i a b t offset in
+        rw (advances-moves vs (record { walker = w; sheet = s }), walk-turns vs i a b t, emits-append)

@@ -1,0 +1,20 @@
+-- `walk::lone_collapsed` meets its contract. Assumes nothing.
+use mathlib.Core.Path.{_∙_}
+use native.Mathlib.Omega.{arith}
+use Rattle.walk.proofs.Sources.{closed-alone, long-alone, pair-alone}
+use Rattle.walk.proofs.lone_collapsed.Statement.{statement}
+use Rattle.walk.proofs.lone_collapsed.Tie as tie
+
+returns : tie.Need-returns
+returns c = rw (c .if1 .taken) (closed-alone _ _ (c .before .before .pre .0) (c .before .before .pre .1) _)
+
+returns-2 : tie.Need-returns-2
+returns-2 c = rw (c .before .if1 .left) (long-alone _ _ (c .before .before .before .pre .0) (c .before .before .before .pre .1) _ (c .if2 .taken))
+
+returns-3 : tie.Need-returns-3
+returns-3 c =
+    rw (c .before .before .before .before .before .if1 .left)
+    (c .is-collapsed .ensures ∙ rw (c .before .create-untrimmed-raw-offset-seg .ensures, c .before .before .before .vertex-at .ensures, c .before .before .vertex-at2 .ensures) (pair-alone _ _ (c .before .before .before .before .before .before .before .pre .0) (c .before .before .before .before .before .before .before .pre .1) _ (c .before .before .before .before .if2 .left)))
+
+pub lone-collapsed-spec : {M : Type 1} → statement M
+lone-collapsed-spec = tie.close (tie.spec returns returns-2 (λ c κs. omega arith) (λ c κs. omega arith) (λ c κs. tt) (λ c κs. tt) returns-3)

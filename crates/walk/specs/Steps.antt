@@ -1,0 +1,88 @@
+-- The steps of the walk's code: where the walker stands, one turn of it, and the pen and buffers with it, and what they need. No rule rests on these: `proofs/Turning.antt`
+-- ties them to `walk`. A walker carries the current segment along; that it is the segment worked out anew from its vertices is proved there. Definitions only.
+use mathlib.Core.Path.{_≡_}
+use Prim.Native.Nat.{ℕ, _+_, _*_, _≤_, _<_}
+use mathlib.Core.Bool.{Bool}
+use mathlib.Core.List.{List, [], _∷_}
+use lib.ListN.{length, drop}
+use lib.Ieee.{Float}
+use Rattle.segments.specs.declared.PlineVertex.{PlineVertex}
+use Rattle.segments.specs.declared.RawOffsetSeg.{RawOffsetSeg}
+use Rattle.segments.specs.Vertex.{posOf}
+use Rattle.segments.specs.Segment.{offsetSeg}
+use Rattle.joins.specs.Join.{joinOf}
+use Rattle.vectors.specs.declared.Vector2.{Vector2}
+use Rattle.joins.specs.declared.JoinBoundary.{JoinBoundary}
+use Rattle.emission.specs.declared.Move.{Move}
+use Rattle.emission.specs.Drawing.{Drawing}
+use Rattle.emission.specs.Buffers.{Buffers}
+use Rattle.emission.specs.Steps.{Sheet, sheet, emitted, emits, Rooms, Within}
+use Rattle.refusals.specs.Source.{verticesOf}
+use Rattle.refusals.specs.Steps.{vertexOf}
+use Rattle.walk.specs.declared.Walker.{Walker}
+use Rattle.walk.specs.declared.Turned.{Turned}
+use Rattle.walk.specs.declared.Walked.{Walked}
+use Rattle.walk.specs.Walk.{spanMove, connectorMove, closingJoin, walkStart, walkMoves, walkDrawing}
+
+-- at segment i, from a to b, whose span starts at the parameter t
+unfoldable pub walkerAt : ℕ → PlineVertex → PlineVertex → Float → Float → Walker
+walkerAt i a b t offset = record { source = record { 0 = i }; current = offsetSeg a b offset; vertex = b; «start_param» = t }
+
+-- on to the segment from the walker's vertex to c: the span and the connector that lead there
+unfoldable pub turnOf : Walker → PlineVertex → Float → Float → Turned
+turnOf w c offset ε =
+    let next = offsetSeg (w .vertex) c offset in
+    let j = joinOf (w .current) next (posOf (w .vertex)) offset ε in
+    record {
+      span = spanMove (w .source .0) (w .current) (w .«start_param») (j .«current_end») (j .«current_param»);
+      connector = connectorMove (w .source .0) j;
+      walker = record { source = record { 0 = w .source .0 + 1 }; current = next; vertex = c; «start_param» = j .«next_param» };
+    }
+
+-- the walker, and the sheet that its moves are drawn on
+pub record Trail : Type 0 where
+  pub walker : Walker
+  pub sheet : Sheet
+
+abbrev pub trail : Walked → Buffers → Trail
+trail w b = record { walker = w .walker; sheet = sheet (w .pen) b }
+
+-- one turn, drawn
+unfoldable pub advanced : Float → Float → PlineVertex → Trail → Trail
+advanced offset ε c r =
+    let t = turnOf (r .walker) c offset ε in
+    record { walker = t .walker; sheet = emitted ε (t .connector) (emitted ε (t .span) (r .sheet)) }
+
+-- a turn for each vertex
+unfoldable pub advances : Float → Float → List PlineVertex → Trail → Trail
+advances offset ε [] r = r
+advances offset ε (c ∷ vs) r = advances offset ε vs (advanced offset ε c r)
+
+-- the moves of the last segment, drawn from where the walker stands
+unfoldable pub ends : (ℕ → RawOffsetSeg → Float → List Move) → Float → Trail → Sheet
+ends last ε r = emits ε (last (r .walker .source .0) (r .walker .current) (r .walker .«start_param»)) (r .sheet)
+
+-- there is room for t turns more
+pub record Turns (t : ℕ) (w : Walked) (b : Buffers) : Type 0 where
+  pub numbers : w .walker .source .0 + t < 0x1_0000_0000
+  pub rooms : Rooms (2 * t) (w .pen) b
+
+-- the numbers of v vertices, and `room` places in each buffer
+pub record Ready (v room : ℕ) (s : List Float) (b : Buffers) : Type 0 where
+  pub long : 3 * v ≡ length s
+  pub two : 2 ≤ v
+  pub most : v ≤ 4096
+  pub within : Within room 0 0 0 b
+
+-- the walk of a source that is lent: its first two vertices, and the others
+abbrev pub joinOfSource : Float → Float → List Float → JoinBoundary
+joinOfSource offset ε s = closingJoin offset ε (vertexOf s 0) (vertexOf s 1) (drop 2 (verticesOf s))
+
+abbrev pub startOfSource : Bool → Float → Float → List Float → Vector2
+startOfSource closed offset ε s = walkStart closed offset ε (vertexOf s 0) (vertexOf s 1) (drop 2 (verticesOf s))
+
+abbrev pub movesOfSource : Bool → Float → Float → List Float → List Move
+movesOfSource closed offset ε s = walkMoves closed offset ε (vertexOf s 0) (vertexOf s 1) (drop 2 (verticesOf s))
+
+abbrev pub walkOfSource : Bool → Float → Float → List Float → Drawing
+walkOfSource closed offset ε s = walkDrawing closed offset ε (vertexOf s 0) (vertexOf s 1) (drop 2 (verticesOf s))
