@@ -1,0 +1,11 @@
+pub mod Endless
+pub mod Ways
+pub mod Demand1
+pub mod Unique
+pub mod PRows
+pub mod Copies
+pub mod Ends
+pub mod Went
+pub mod Output
+pub mod Demand3
+pub mod Assertions
