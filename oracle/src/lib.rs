@@ -8,6 +8,8 @@ pub mod core;
 pub mod generate;
 #[cfg(with_000)]
 mod job;
+#[cfg(with_000)]
+pub mod packed;
 pub mod polyline;
 #[cfg(feature = "proved")]
 pub mod proved;

@@ -1,8 +1,8 @@
 -- A zero offset: the source's numbers copied, and zeros after them, are the drawing of the source. Assumes nothing.
 use mathlib.Core.Path.{_≡_, refl, sym, ap, _∙_}
-use mathlib.Core.List.{List, [], _∷_, _++_}
+use mathlib.Core.List.{List, [], _++_}
 use mathlib.Core.Bool.{Bool, true, false}
-use Prim.Native.Nat.{ℕ, _+_, _*_, _-_, _%_, _≤_, _<_}
+use Prim.Native.Nat.{ℕ, _+_, _*_, _≤_, _<_}
 use native.Mathlib.Nat.{zero-add}
 use native.Mathlib.Numerals.{add-one}
 use native.Mathlib.Omega.{arith}
@@ -14,7 +14,7 @@ use Rattle.segments.specs.declared.PlineVertex.{PlineVertex}
 use Rattle.refusals.specs.Source.{verticesOf, segmentsOf}
 use Rattle.refusals.proofs.Source.{flat-vertices, count-vertices}
 use Rattle.refusals.proofs.Segments.{segments-closed, segments-open}
-use Rattle.emission.specs.Buffers.{Buffers, buffers, flat, shown, padded}
+use Rattle.emission.specs.Buffers.{Buffers, buffers, flat, shown}
 use Rattle.emission.specs.Steps.{over, wiped}
 use Rattle.emission.proofs.Over.{cleared-after, cleared-whole, padded-same}
 use Rattle.walk.specs.Steps.{Ready}

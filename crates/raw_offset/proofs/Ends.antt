@@ -4,7 +4,7 @@ use mathlib.Core.List.{List}
 use mathlib.Core.Bool.{Bool, true, false, not}
 use Prim.Native.Nat.{ℕ, _*_, _/_, _%_, _≤_}
 use native.Mathlib.Omega.{arith}
-use borrow.Author.Tests.{leb-true, not-false}
+use borrow.Author.Tests.{not-false}
 use lib.Dec.{leb, ltb}
 use lib.ListN.{length}
 use lib.Ieee.{Float, eq}
@@ -13,7 +13,6 @@ use Rattle.floats.specs.Choice.{pick, _and_}
 use Rattle.floats.proofs.Choice.{yes, no}
 use Rattle.refusals.specs.Source.{verticesOf, segmentsOf}
 use Rattle.refusals.specs.Limits.{numberTests, firstOf}
-use Rattle.refusals.proofs.Bad.{both-pass}
 use Rattle.refusals.proofs.Segments.{segments-most}
 use Rattle.emission.specs.declared.RawOffsetResult.{RawOffsetResult}
 use Rattle.emission.specs.declared.Built.{Built}
@@ -23,12 +22,10 @@ use Rattle.emission.specs.Steps.{Settled, settles, settled, finished}
 use Rattle.walk.specs.Walk.{drawingOf}
 use Rattle.walk.specs.Steps.{Ready}
 use Rattle.walk.proofs.Whole.{settles-drawn}
-use Rattle.raw_offset.specs.declared.RawOffsetAnswer.{RawOffsetAnswer}
 use Rattle.raw_offset.specs.declared.RawOffsetAnswer.the-variants.{Done, BadNumber, NoRoom, NotFinite}
 use Rattle.raw_offset.specs.Job.{Outcome, ending, unchanged, done, built, roomFor, hasRoom, copied, refusedAt, jobOf}
-use Rattle.raw_offset.specs.Rows.{Job}
 use Rattle.raw_offset.specs.Steps.{fromRoom, fromRepeated, Counted, answered}
-use Rattle.raw_offset.proofs.Ways.{whole-way}
+use Rattle.raw_offset.proofs.Ways.{all-fit, whole-way}
 
 -- ---- past Nos. 1 and 2
 
@@ -51,17 +48,14 @@ module _ (s : List Float) (closed : Bool) (v : ℕ) (old : Buffers) (n : ℕ) (t
 
   ready : Counted v s → not t ≡ false → Ready v (2 * n) s old
   ready k f =
-      let p = both-pass (leb (2 * n) (length (old .vertices) / 3)) (leb (2 * n) (length (old .flags)) and leb (2 * n) (length (old .indexes))) .0 (sym r ∙ not-false t f) in
-      let q = both-pass (leb (2 * n) (length (old .flags))) (leb (2 * n) (length (old .indexes))) .0 (p .1) in
+      let fit = all-fit (2 * n) (length (old .vertices) / 3) (length (old .flags)) (length (old .indexes)) (sym r ∙ not-false t f) in
+      let vertices = fit .0 in
       let few = few-places closed v s k h in
-      let vertices : 2 * n ≤ length (old .vertices) / 3 = leb-true _ _ (p .0) in
-      let flags : 2 * n ≤ length (old .flags) = leb-true _ _ (q .0) in
-      let indexes : 2 * n ≤ length (old .indexes) = leb-true _ _ (q .1) in
       record {
         long = k .long;
         two = k .two;
         most = k .most;
-        within = record { small = omega arith; from-vertex = omega arith; from-flag = omega arith; from-index = omega arith; vertices = omega arith; flags = flags; indexes = indexes };
+        within = record { small = omega arith; from-vertex = omega arith; from-flag = omega arith; from-index = omega arith; vertices = omega arith; flags = fit .1; indexes = fit .2 };
       }
 
   pub has-places : Counted v s → not t ≡ false → Ready v (2 * n) s old × (2 * n ≡ 2 * segmentsOf closed v)

@@ -2,19 +2,18 @@
 use mathlib.Core.Path.{_≡_, refl, sym, subst}
 use mathlib.Core.Logic.{inl, inr, ⊎-elim}
 use mathlib.Core.Bool.{Bool, true, false, not}
-use Prim.Native.Nat.{ℕ, _*_, _/_, _%_, _≤_, _<_}
+use Prim.Native.Nat.{ℕ, _/_, _%_, _≤_, _<_}
 use borrow.Author.Tests.{ltb-true, ltb-false, leb-true, leb-false, eqb-true, eqb-false, lt-ltb, le-ltb, le-leb, lt-leb, eq-eqb, ne-eqb}
 use lib.Dec.{T, ltb, leb, eqb}
 use lib.ListN.{length}
-use lib.Ieee.{Float, eq}
+use lib.Ieee.{eq}
 use Rattle.floats.specs.Binary64.{zero}
 use Rattle.floats.specs.Choice.{pick, _and_}
-use Rattle.floats.proofs.Choice.{yes, no, and-yes, and-no}
+use Rattle.floats.proofs.Choice.{yes, no}
 use Rattle.refusals.specs.declared.Place.{Place}
 use Rattle.refusals.specs.declared.Place.the-variants.{Nowhere, At}
-use Rattle.refusals.specs.Source.{verticesOf, segmentsOf}
+use Rattle.refusals.specs.Source.{verticesOf}
 use Rattle.refusals.specs.Limits.{numberTests, repeatTests, firstOf}
-use Rattle.refusals.specs.Rows.{NumberRow, RepeatedRow}
 use Rattle.refusals.proofs.First.{by-test}
 use Rattle.refusals.proofs.NumberRow.{number-row, number-nowhere}
 use Rattle.refusals.proofs.RepeatedRow.{repeated-row, repeated-nowhere}
@@ -26,7 +25,7 @@ use Rattle.raw_offset.specs.declared.RawOffsetAnswer.{RawOffsetAnswer}
 use Rattle.raw_offset.specs.declared.RawOffsetAnswer.the-variants.{Done, Ragged, TooMany, BadNumber, NoRoom, Repeated, NotFinite}
 use Rattle.raw_offset.specs.Job.{Outcome, ending, unchanged, done, built, roomFor, hasRoom, copied, refusedAt, jobOf}
 use Rattle.raw_offset.specs.Rows.{Job, outcome, count, places, Whole, Numbers, Roomy, Distinct, Row1, Row2, Row3, Short, vertices, flags, indexes, Row4, Row5, Row6}
-use Rattle.raw_offset.proofs.Endless.{Holds, fails→holds, holds→fails}
+use Rattle.raw_offset.proofs.Endless.{fails→holds, holds→fails}
 
 -- ---- a search that found a place, and one that did not
 
@@ -56,12 +55,17 @@ has-room : (j : Job) → Roomy j → hasRoom (places j) (j .buffers) ≡ true
 unfolding hasRoom
 has-room j r = both-pass _ _ .1 (le-leb _ _ (r .vertices), both-pass _ _ .1 (le-leb _ _ (r .flags), le-leb _ _ (r .indexes)))
 
+pub all-fit : (r a b c : ℕ) → (leb r a and (leb r b and leb r c)) ≡ true → (r ≤ a) × (r ≤ b) × (r ≤ c)
+all-fit r a b c e =
+    let p = both-pass (leb r a) (leb r b and leb r c) .0 e in
+    let q = both-pass (leb r b) (leb r c) .0 (p .1) in
+    (leb-true r a (p .0), leb-true r b (q .0), leb-true r c (q .1))
+
 roomy : (j : Job) → Numbers j → 2 ≤ count j → hasRoom (places j) (j .buffers) ≡ true → Roomy j
 unfolding hasRoom
 roomy j n t e =
-    let p = both-pass (leb (places j) (length (j .buffers .vertices) / 3)) (leb (places j) (length (j .buffers .flags)) and leb (places j) (length (j .buffers .indexes))) .0 e in
-    let q = both-pass (leb (places j) (length (j .buffers .flags))) (leb (places j) (length (j .buffers .indexes))) .0 (p .1) in
-    record { numbers = n; two = t; vertices = leb-true _ _ (p .0); flags = leb-true _ _ (q .0); indexes = leb-true _ _ (q .1) }
+    let f = all-fit (places j) (length (j .buffers .vertices) / 3) (length (j .buffers .flags)) (length (j .buffers .indexes)) e in
+    record { numbers = n; two = t; vertices = f .0; flags = f .1; indexes = f .2 }
 
 no-room : (j : Job) → Short j → hasRoom (places j) (j .buffers) ≡ false
 unfolding hasRoom

@@ -1,7 +1,7 @@
 -- The whole job (01 §1), in the order of its tests: the answer, and what the three buffers hold afterwards. Definitions only.
 use Prim.Native.Nat.{ℕ, _*_, _/_, _%_}
 use mathlib.Core.List.{List, []}
-use mathlib.Core.Bool.{Bool, true, false, not}
+use mathlib.Core.Bool.{Bool, not}
 use lib.Dec.{ltb, leb, eqb}
 use lib.ListN.{length, replicate}
 use lib.Ieee.{Float, eq}

@@ -6,6 +6,8 @@
 //! input and output.
 
 #[cfg(with_000)]
+mod edges;
+#[cfg(with_000)]
 mod jobs;
 #[cfg(with_000)]
 mod joins;
@@ -15,6 +17,8 @@ mod layers;
 mod programs;
 #[cfg(with_000)]
 mod rows;
+#[cfg(with_000)]
+mod stored;
 
 #[cfg(not(with_000))]
 fn main() {
@@ -31,6 +35,7 @@ fn main() -> std::io::Result<()> {
             jobs::print();
             Ok(())
         }
+        [program, folder] if program == "jobs_main" => stored::write(folder.as_ref()),
         [program, folder] => programs::write(program, folder.as_ref()),
         _ => {
             eprintln!("samples: [PROGRAM FOLDER]");

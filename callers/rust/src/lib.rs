@@ -1,0 +1,155 @@
+//! Blidrosk: the raw offset of a drawing of lines and arcs, for cutting tables.
+//!
+//! A source has three numbers a vertex: x, y and the bulge of the segment that leaves it, which is
+//! the tangent of a quarter of the segment's sweep, positive counterclockwise. A positive offset
+//! moves to the left of the way drawn.
+//!
+//! ```
+//! use blidrosk::Drawing;
+//!
+//! let source = [0.0, 0.0, 0.0, 4.0, 0.0, 0.0, 4.0, 1.0, 0.0];
+//! let drawing = Drawing::offset(&source, false, 2.0, 1e-5).expect("a good job");
+//! assert_eq!(drawing.vertices.len(), 3 * 4);
+//! assert_eq!(drawing.flags, [0, 1, 0]);
+//! assert_eq!(drawing.indexes, [1]);
+//! ```
+
+mod refusal;
+
+pub use refusal::{Bad, Refusal};
+
+/// The most vertices that a source may have.
+pub const MOST_VERTICES: usize = 4096;
+
+/// What a job that is done has written.
+#[derive(Clone, Copy, Debug, PartialEq, Eq)]
+pub struct Drawn {
+    /// Count of vertices, three numbers each.
+    pub vertices: usize,
+    /// Count of indexes, one for each invalid segment.
+    pub indexes: usize,
+    pub closed: bool,
+}
+
+pub type Answer = Result<Drawn, Refusal>;
+
+/// The numbers that the archive answers in: number, place, count of vertices, count of indexes,
+/// and 1 where the drawing is closed.
+type Numbers = [u32; 5];
+
+// SAFETY: the declaration is that of `callers/include/blidrosk.h`, where a caller's duties stand.
+unsafe extern "C" {
+    fn blidrosk_raw_offset(
+        source: *const f64,
+        source_len: usize,
+        closed: bool,
+        offset: f64,
+        eps: f64,
+        vertices: *mut f64,
+        vertices_len: usize,
+        flags: *mut u8,
+        flags_len: usize,
+        indexes: *mut u32,
+        indexes_len: usize,
+        answer: *mut Numbers,
+    ) -> u32;
+}
+
+/// Offsets a drawing into the three buffers, each of which needs [`room`] places; a place in
+/// `vertices` is three numbers.
+///
+/// `flags` receives a byte for each output segment, 1 where it is invalid, and `indexes` the
+/// numbers of the invalid ones. Places past the room never change, and on a refusal none does,
+/// save that [`Refusal::NotFinite`] leaves zeros in the room.
+pub fn raw_offset(
+    source: &[f64],
+    closed: bool,
+    offset: f64,
+    eps: f64,
+    vertices: &mut [f64],
+    flags: &mut [u8],
+    indexes: &mut [u32],
+) -> Answer {
+    let mut answer: Numbers = [0; 5];
+    // SAFETY: each pointer goes with the length of its own slice, the answer has five places, and
+    // no two of them overlap, since all but the source are borrowed as `&mut`.
+    unsafe {
+        blidrosk_raw_offset(
+            source.as_ptr(),
+            source.len(),
+            closed,
+            offset,
+            eps,
+            vertices.as_mut_ptr(),
+            vertices.len(),
+            flags.as_mut_ptr(),
+            flags.len(),
+            indexes.as_mut_ptr(),
+            indexes.len(),
+            &mut answer,
+        );
+    }
+    read(answer, source.len() / 3)
+}
+
+fn read([number, place, vertices, indexes, closed]: Numbers, source_vertices: usize) -> Answer {
+    match Refusal::of(number, place as usize, source_vertices) {
+        Some(refusal) => Err(refusal),
+        None => Ok(Drawn {
+            vertices: vertices as usize,
+            indexes: indexes as usize,
+            closed: closed == 1,
+        }),
+    }
+}
+
+/// The places that each buffer needs for a source of so many vertices: two for each segment.
+pub const fn room(vertices: usize, closed: bool) -> usize {
+    if vertices < 2 {
+        return 0;
+    }
+    let segments = if closed { vertices } else { vertices - 1 };
+    segments.saturating_mul(2)
+}
+
+/// A drawing in vectors of its own.
+#[derive(Clone, Debug, PartialEq)]
+pub struct Drawing {
+    /// Three numbers a vertex, as in a source.
+    pub vertices: Vec<f64>,
+    /// A byte for each segment: 1 where it is invalid.
+    pub flags: Vec<u8>,
+    /// The invalid segments, rising.
+    pub indexes: Vec<u32>,
+    pub closed: bool,
+}
+
+impl Drawing {
+    /// Offsets a drawing, with as much room as it needs.
+    pub fn offset(source: &[f64], closed: bool, offset: f64, eps: f64) -> Result<Self, Refusal> {
+        // a longer source is refused before its room is looked at
+        let places = room((source.len() / 3).min(MOST_VERTICES), closed);
+        let mut vertices = vec![0.0; 3 * places];
+        let mut flags = vec![0; places];
+        let mut indexes = vec![0; places];
+        let drawn = raw_offset(
+            source,
+            closed,
+            offset,
+            eps,
+            &mut vertices,
+            &mut flags,
+            &mut indexes,
+        )?;
+        let open_ends = usize::from(!drawn.closed);
+        vertices.truncate(3 * drawn.vertices);
+        flags.truncate(drawn.vertices.saturating_sub(open_ends));
+        indexes.truncate(drawn.indexes);
+        Ok(Drawing {
+            vertices,
+            flags,
+            indexes,
+            closed: drawn.closed,
+        })
+    }
+}

@@ -1,0 +1,94 @@
+//! Why a job is refused, in words for the one who drew it.
+
+use std::error::Error;
+use std::fmt;
+
+/// Why a job is refused. Where several apply, the first of them is given.
+#[derive(Clone, Copy, Debug, PartialEq, Eq)]
+pub enum Refusal {
+    /// The source's length is no multiple of 3.
+    Ragged,
+    /// The source has more than [`MOST_VERTICES`](crate::MOST_VERTICES) vertices.
+    TooMany,
+    /// A number is a NaN, infinite, or out of its range.
+    BadNumber(Bad),
+    /// A buffer has fewer places than [`room`](crate::room) says.
+    NoRoom,
+    /// This vertex and the one that it is joined to are nearer than the tolerance in x and in y.
+    Repeated(usize),
+    /// The drawing came out with a NaN or an infinity.
+    NotFinite,
+}
+
+/// Which number is bad.
+#[derive(Clone, Copy, Debug, PartialEq, Eq)]
+pub enum Bad {
+    /// One of this vertex, counted from 0.
+    Vertex(usize),
+    Offset,
+    Eps,
+}
+
+impl Refusal {
+    /// The refusal that a number and a place stand for, if it is one.
+    pub(crate) fn of(number: u32, place: usize, source_vertices: usize) -> Option<Self> {
+        Some(match number {
+            0 => return None,
+            1 => Refusal::Ragged,
+            2 => Refusal::TooMany,
+            3 => Refusal::BadNumber(Bad::at(place, source_vertices)),
+            4 => Refusal::NoRoom,
+            5 => Refusal::Repeated(place),
+            6 => Refusal::NotFinite,
+            _ => unreachable!("the archive answers no number above 6"),
+        })
+    }
+}
+
+impl Bad {
+    /// The offset and the tolerance are counted after the vertices.
+    fn at(place: usize, source_vertices: usize) -> Self {
+        if place < source_vertices {
+            Bad::Vertex(place)
+        } else if place == source_vertices {
+            Bad::Offset
+        } else {
+            Bad::Eps
+        }
+    }
+}
+
+impl fmt::Display for Refusal {
+    fn fmt(&self, f: &mut fmt::Formatter<'_>) -> fmt::Result {
+        match self {
+            Refusal::Ragged => {
+                f.write_str("the source has numbers left over: a vertex is x, y and bulge")
+            }
+            Refusal::TooMany => f.write_str("the source has more than 4096 vertices"),
+            Refusal::BadNumber(bad) => bad.fmt(f),
+            Refusal::NoRoom => {
+                f.write_str("a buffer is too short: each needs two places a segment")
+            }
+            Refusal::Repeated(k) => write!(
+                f,
+                "vertex {k} and the one after it are the same point within the tolerance"
+            ),
+            Refusal::NotFinite => f.write_str("the offset drawing has a number that is not finite"),
+        }
+    }
+}
+
+impl fmt::Display for Bad {
+    fn fmt(&self, f: &mut fmt::Formatter<'_>) -> fmt::Result {
+        match self {
+            Bad::Vertex(k) => write!(
+                f,
+                "vertex {k} has a number out of range: x and y within ±1000000, bulge within ±1000"
+            ),
+            Bad::Offset => f.write_str("the offset is out of range: within ±1000000"),
+            Bad::Eps => f.write_str("the tolerance is out of range: 1e-9 to 0.01"),
+        }
+    }
+}
+
+impl Error for Refusal {}

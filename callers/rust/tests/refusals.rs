@@ -1,0 +1,190 @@
+//! Each refusal, at its border, and what it leaves in the buffers.
+
+use blidrosk::{Answer, Bad, Drawing, MOST_VERTICES, Refusal, raw_offset, room};
+
+const EPS: f64 = 1e-5;
+
+const CORNER: [f64; 9] = [0.0, 0.0, 0.0, 4.0, 0.0, 0.0, 4.0, 4.0, 0.0];
+
+/// Buffers that hold marks of their own, to see what a call changes.
+#[derive(Clone, Debug, PartialEq)]
+struct Buffers {
+    vertices: Vec<f64>,
+    flags: Vec<u8>,
+    indexes: Vec<u32>,
+}
+
+impl Buffers {
+    fn marked(numbers: usize, flags: usize, indexes: usize) -> Self {
+        Buffers {
+            vertices: vec![-7.5; numbers],
+            flags: vec![77; flags],
+            indexes: vec![777; indexes],
+        }
+    }
+
+    /// So many places in each.
+    fn of(places: usize) -> Self {
+        Buffers::marked(3 * places, places, places)
+    }
+
+    fn job(&mut self, source: &[f64], closed: bool, offset: f64, eps: f64) -> Answer {
+        raw_offset(
+            source,
+            closed,
+            offset,
+            eps,
+            &mut self.vertices,
+            &mut self.flags,
+            &mut self.indexes,
+        )
+    }
+}
+
+#[track_caller]
+fn assert_refused(source: &[f64], closed: bool, offset: f64, eps: f64, refusal: Refusal) {
+    let mut buffers = Buffers::of(room(source.len() / 3, closed) + 1);
+    let before = buffers.clone();
+    assert_eq!(buffers.job(source, closed, offset, eps), Err(refusal));
+    assert_eq!(buffers, before, "a refusal changed a buffer");
+}
+
+/// So many vertices along a line, half apart.
+fn row(vertices: usize) -> Vec<f64> {
+    (0..vertices)
+        .flat_map(|k| [0.5 * k as f64, 0.0, 0.0])
+        .collect()
+}
+
+fn with(mut source: [f64; 9], place: usize, number: f64) -> [f64; 9] {
+    source[place] = number;
+    source
+}
+
+#[test]
+fn numbers_left_over() {
+    for left in [1, 2, 4, 5, 7, 8] {
+        assert_refused(&CORNER[..left], false, 1.0, EPS, Refusal::Ragged);
+    }
+}
+
+#[test]
+fn the_most_vertices_and_one_more() {
+    let most = Drawing::offset(&row(MOST_VERTICES), false, 1.0, EPS).expect("4096 pass");
+    assert_eq!(most.vertices.len(), 3 * MOST_VERTICES);
+    assert_eq!(most.indexes, []);
+    let more = row(MOST_VERTICES + 1);
+    assert_refused(&more, false, 1.0, EPS, Refusal::TooMany);
+    assert_eq!(
+        Drawing::offset(&more, true, 1.0, EPS),
+        Err(Refusal::TooMany)
+    );
+}
+
+#[test]
+fn numbers_that_are_none() {
+    for bad in [f64::NAN, f64::INFINITY, f64::NEG_INFINITY] {
+        for place in 0..9 {
+            let refusal = Refusal::BadNumber(Bad::Vertex(place / 3));
+            assert_refused(&with(CORNER, place, bad), false, 1.0, EPS, refusal);
+        }
+        assert_refused(&CORNER, true, bad, EPS, Refusal::BadNumber(Bad::Offset));
+        assert_refused(&CORNER, true, 1.0, bad, Refusal::BadNumber(Bad::Eps));
+        assert_refused(&[], false, bad, bad, Refusal::BadNumber(Bad::Offset));
+    }
+}
+
+#[test]
+fn ranges_include_their_limits() {
+    for sign in [-1.0, 1.0] {
+        for (place, limit) in [(3, 1e6), (4, 1e6), (5, 1e3)] {
+            let job = |x: f64| Drawing::offset(&with(CORNER, place, sign * x), false, 1.0, EPS);
+            assert!(job(limit).is_ok());
+            let refusal = Refusal::BadNumber(Bad::Vertex(1));
+            assert_eq!(job(limit.next_up()), Err(refusal));
+        }
+        let job = |offset: f64| Drawing::offset(&CORNER, false, sign * offset, EPS);
+        assert!(job(1e6).is_ok());
+        assert_eq!(job(1e6_f64.next_up()), Err(Refusal::BadNumber(Bad::Offset)));
+    }
+    let job = |eps: f64| Drawing::offset(&CORNER, false, 1.0, eps).map(drop);
+    assert_eq!((job(1e-9), job(0.01)), (Ok(()), Ok(())));
+    for eps in [1e-9_f64.next_down(), 0.01_f64.next_up(), 0.0, -1e-5] {
+        assert_eq!(job(eps), Err(Refusal::BadNumber(Bad::Eps)));
+    }
+}
+
+#[test]
+fn room_one_short() {
+    let places = room(3, false);
+    assert_eq!(places, 4);
+    assert!(Buffers::of(places).job(&CORNER, false, 1.0, EPS).is_ok());
+    for (numbers, flags, indexes) in [(11, 4, 4), (12, 3, 4), (12, 4, 3), (0, 0, 0)] {
+        let mut buffers = Buffers::marked(numbers, flags, indexes);
+        let before = buffers.clone();
+        assert_eq!(buffers.job(&CORNER, false, 1.0, EPS), Err(Refusal::NoRoom));
+        assert_eq!(buffers, before);
+    }
+}
+
+#[test]
+fn joined_vertices_on_one_point() {
+    let twice = [0.0, 0.0, 0.0, 4.0, 0.0, 0.0, 4.0, 1e-6, 0.0];
+    assert_refused(&twice, false, 1.0, EPS, Refusal::Repeated(1));
+    let back = [0.0, 0.0, 0.0, 4.0, 0.0, 0.0, 1e-6, 0.0, 0.0];
+    assert_refused(&back, true, 1.0, EPS, Refusal::Repeated(2));
+    assert!(
+        Drawing::offset(&back, false, 1.0, EPS).is_ok(),
+        "open: not joined"
+    );
+    assert!(Drawing::offset(&twice, false, 0.0, EPS).is_ok(), "a copy");
+}
+
+#[test]
+fn a_drawing_that_is_not_finite_leaves_zeros_in_the_room() {
+    let source = [5.0, 0.0, 0.6180339887498949, -3.0, 4.0, 0.0, 5.0, 4.0, 0.0];
+    let places = room(3, false);
+    let mut buffers = Buffers::of(places + 1);
+    let answer = buffers.job(&source, false, 0.5000002384185791, 4.7683715820312495e-7);
+    assert_eq!(answer, Err(Refusal::NotFinite));
+    let mut left = Buffers::of(places + 1);
+    left.vertices[..3 * places].fill(0.0);
+    left.flags[..places].fill(0);
+    left.indexes[..places].fill(0);
+    assert_eq!(buffers, left);
+}
+
+#[test]
+fn what_is_done_stays_within_the_room() {
+    let places = room(3, false);
+    let mut buffers = Buffers::of(places + 1);
+    let drawn = buffers.job(&CORNER, false, 1.0, EPS).expect("a good job");
+    assert_eq!((drawn.vertices, drawn.indexes, drawn.closed), (3, 0, false));
+    assert_eq!(buffers.vertices[9..], [0.0, 0.0, 0.0, -7.5, -7.5, -7.5]);
+    assert_eq!(buffers.flags, [0, 0, 0, 0, 77]);
+    assert_eq!(buffers.indexes, [0, 0, 0, 0, 777]);
+}
+
+#[test]
+fn a_lone_vertex_changes_no_buffer() {
+    let mut buffers = Buffers::of(2);
+    let before = buffers.clone();
+    let drawn = buffers
+        .job(&CORNER[..3], true, 1.0, EPS)
+        .expect("a good job");
+    assert_eq!((drawn.vertices, drawn.indexes, drawn.closed), (0, 0, false));
+    assert_eq!(buffers, before);
+}
+
+#[test]
+fn words_for_the_one_who_drew_it() {
+    let said = |source: &[f64], eps| {
+        Drawing::offset(source, false, 1.0, eps)
+            .unwrap_err()
+            .to_string()
+    };
+    let far = with(CORNER, 6, 2e6);
+    assert!(said(&far, EPS).starts_with("vertex 2 has a number out of range"));
+    assert!(said(&CORNER, 1.0).starts_with("the tolerance is out of range"));
+    assert!(said(&CORNER[..4], EPS).contains("left over"));
+}

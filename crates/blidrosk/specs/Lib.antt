@@ -1,0 +1,2 @@
+-- What callers in C are told.
+pub mod Told

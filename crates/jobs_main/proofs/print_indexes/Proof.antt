@@ -1,0 +1,18 @@
+-- Each place lies in the slice, whose length is the end. Assumes nothing.
+use Prim.Native.Nat.{_≤_, _-_}
+use lib.ListN.{length}
+use borrow.Author.Needs.{needs}
+use native.Mathlib.Omega.{arith}
+use Rattle.jobs_main.proofs.print_indexes.Statement.{statement}
+use Rattle.jobs_main.proofs.print_indexes.Tie as tie
+
+abbrev Inv-loop : tie.InvT-loop
+Inv-loop indexes shown sum₀ i₀ i-end sum i = (i ≤ i-end) × (i-end ≤ length indexes)
+
+abbrev μ-loop : tie.MeasureT-loop
+μ-loop indexes shown sum₀ i₀ i-end sum i = i-end - i
+
+pub print-indexes-spec : {M : Type 1} → statement M
+print-indexes-spec =
+    tie.close
+    (tie.spec Inv-loop μ-loop (λ c. omega arith) (λ c. omega arith) (λ c. omega arith) (λ c κs. search needs) (λ c κs. search needs) (λ c κs. search needs) (λ c. omega arith) (λ c. omega arith) (λ c. omega arith) (λ c κs. search needs) (λ c. search needs))

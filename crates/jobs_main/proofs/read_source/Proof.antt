@@ -1,0 +1,19 @@
+-- Each place that is read into lies in the slice. Assumes nothing.
+use mathlib.Core.Path.{_≡_}
+use Prim.Native.Nat.{_≤_, _-_}
+use lib.ListN.{length, length-set}
+use borrow.Author.Needs.{needs}
+use native.Mathlib.Omega.{arith}
+use Rattle.jobs_main.proofs.read_source.Statement.{statement}
+use Rattle.jobs_main.proofs.read_source.Tie as tie
+
+abbrev Inv-loop : tie.InvT-loop
+Inv-loop count source₀ i₀ i-end source i = (i ≤ i-end) × (i-end ≤ length source) × (length source ≡ length source₀)
+
+abbrev μ-loop : tie.MeasureT-loop
+μ-loop count source₀ i₀ i-end source i = i-end - i
+
+pub read-source-spec : {M : Type 1} → statement M
+read-source-spec =
+    tie.close
+    (tie.spec Inv-loop μ-loop (λ c κs. search needs) (λ c. omega arith) (λ c κs. search needs) (λ c. omega arith) (λ c. omega arith) (λ c. omega arith) (λ c. omega arith) (λ c. simp length-set (omega arith)) (λ c. c .before .loop .inv .2) (λ c. search needs))

@@ -1,0 +1,294 @@
+// Whole jobs on stored rows, each with all that it leaves in the three lent buffers.
+// The input is words of eight bytes, highest byte first: the count of rows, then the rows. A row is
+// how many numbers the source has, closed, offset, tolerance, and how many numbers, flags and
+// indexes are lent; then the source. The jobs at the limit of vertices are made here. The stored
+// output comes from 000 over 01's arithmetic in Rust (`oracle`, `samples`).
+ghost use Prim.Native.Nat.{_≤_};
+use emission::RawOffsetResult;
+use raw_offset::RawOffsetAnswer;
+
+// What stands in each buffer before a job.
+const NUMBER_BEFORE: f64 = -7.25;
+
+const FLAG_BEFORE: u8 = 0xa5;
+
+const INDEX_BEFORE: u32 = 0xdead_beef;
+
+// Drawings of more vertices are told by their checksums alone.
+const MOST_SHOWN: u32 = 16;
+
+// How many places of each array a job is lent.
+struct Lent {
+    source: usize,
+    numbers: usize,
+    flags: usize,
+    indexes: usize,
+}
+
+fn joined(a: u8, b: u8, c: u8, d: u8) -> u64 {
+    (a as u64) << 24 | (b as u64) << 16 | (c as u64) << 8 | (d as u64)
+}
+
+// The next word of the input; what lies past its end is zero.
+fn read_word() -> u64 {
+    let mut b = [0u8; 8];
+    let _read = io::read_full(0, &mut b);
+    joined(b[0], b[1], b[2], b[3]) << 32 | joined(b[4], b[5], b[6], b[7])
+}
+
+fn read_number() -> f64 {
+    bits::number_of(read_word())
+}
+
+fn print(text: &[u8]) {
+    let _written = io::write_all(1, text);
+}
+
+fn print_count(n: u64) {
+    print(b" ");
+    let _written = io::print_decimal(1, n);
+}
+
+fn print_bits(word: u64) {
+    print(b" ");
+    let _written = io::print_hex(1, word, 16);
+}
+
+fn print_sum(sum: u64) {
+    print(b" sum");
+    print_bits(sum);
+}
+
+fn least(a: usize, b: usize) -> usize
+    ensures { λ r. ⌜ r ≤ b ⌝ }
+{
+    if a < b { a } else { b }
+}
+
+// A checksum that tells places apart: before each word the sum is added to itself turned by five.
+fn mixed(sum: u64, word: u64) -> u64 {
+    let turned = sum << 5 | sum >> 59;
+    std::num::wrapping_add_u64(std::num::wrapping_add_u64(turned, sum), word)
+}
+
+// The first places as they stand, and a checksum of all; so for flags and indexes.
+fn print_numbers(numbers: &[f64], shown: usize) {
+    let mut sum = 0;
+    for i in 0..numbers.len() {
+        let word = bits::bits_of(numbers[i]);
+        if i < shown {
+            print_bits(word);
+        }
+        sum = mixed(sum, word);
+    }
+    print_sum(sum);
+}
+
+fn of_flag(flag: u8) -> u64 {
+    flag as u64
+}
+
+fn print_flags(flags: &[u8], shown: usize) {
+    let mut sum = 0;
+    for i in 0..flags.len() {
+        let word = of_flag(flags[i]);
+        if i < shown {
+            print_count(word);
+        }
+        sum = mixed(sum, word);
+    }
+    print_sum(sum);
+}
+
+fn of_index(index: u32) -> u64 {
+    index as u64
+}
+
+fn print_indexes(indexes: &[u32], shown: usize) {
+    let mut sum = 0;
+    for i in 0..indexes.len() {
+        let word = of_index(indexes[i]);
+        if i < shown {
+            print_count(word);
+        }
+        sum = mixed(sum, word);
+    }
+    print_sum(sum);
+}
+
+fn print_result(r: RawOffsetResult) {
+    print(b"0 0");
+    print_count(r.vertices as u64);
+    print_count(r.indexes as u64);
+    if r.closed {
+        print(b" 1");
+    } else {
+        print(b" 0");
+    }
+}
+
+fn print_refusal(number: u64, place: u32) {
+    let _written = io::print_decimal(1, number);
+    print_count(place as u64);
+    print(b" 0 0 0");
+}
+
+// 01's number and place, the two counts, and 1 for closed.
+fn print_answer(answer: RawOffsetAnswer) {
+    match answer {
+        RawOffsetAnswer::Done(r) => print_result(r),
+        RawOffsetAnswer::Ragged => print_refusal(1, 0),
+        RawOffsetAnswer::TooMany => print_refusal(2, 0),
+        RawOffsetAnswer::BadNumber(place) => print_refusal(3, place),
+        RawOffsetAnswer::NoRoom => print_refusal(4, 0),
+        RawOffsetAnswer::Repeated(place) => print_refusal(5, place),
+        RawOffsetAnswer::NotFinite => print_refusal(6, 0),
+    }
+}
+
+// An open drawing has a segment fewer than vertices.
+fn segments_drawn(r: RawOffsetResult) -> u32 {
+    if r.closed {
+        return r.vertices;
+    }
+    if r.vertices == 0 {
+        return 0;
+    }
+    r.vertices - 1
+}
+
+// The drawing whose places are shown: none of a refusal or of a long one.
+fn shown(answer: RawOffsetAnswer) -> RawOffsetResult {
+    if let RawOffsetAnswer::Done(r) = answer {
+        if r.vertices <= MOST_SHOWN {
+            return r;
+        }
+    }
+    RawOffsetResult::empty()
+}
+
+fn print_outcome(answer: RawOffsetAnswer, vertices: &[f64], flags: &[u8], indexes: &[u32]) {
+    let drawn = shown(answer);
+    print_answer(answer);
+    print_numbers(vertices, 3 * (drawn.vertices as usize));
+    print_flags(flags, segments_drawn(drawn) as usize);
+    print_indexes(indexes, drawn.indexes as usize);
+    print(b"\n");
+}
+
+// Works one job on the first places of the buffers, and prints what all of them hold then.
+fn job(
+    lent: Lent,
+    source: &[f64],
+    closed: bool,
+    offset: f64,
+    eps: f64,
+    vertices: &mut [f64],
+    flags: &mut [u8],
+    indexes: &mut [u32],
+) {
+    let count = least(lent.source, source.len());
+    let numbers_lent = least(lent.numbers, vertices.len());
+    let flags_lent = least(lent.flags, flags.len());
+    let indexes_lent = least(lent.indexes, indexes.len());
+    let answer = raw_offset::create_raw_offset(
+        &source[..count],
+        closed,
+        offset,
+        eps,
+        &mut vertices[..numbers_lent],
+        &mut flags[..flags_lent],
+        &mut indexes[..indexes_lent],
+    );
+    print_outcome(answer, vertices, flags, indexes);
+}
+
+// Reads the source that follows a row's first words.
+fn read_source(count: usize, source: &mut [f64]) {
+    for i in 0..least(count, source.len()) {
+        source[i] = read_number();
+    }
+}
+
+// A stored row: at most 42 vertices.
+fn row() {
+    let mut source = [0.0; 128];
+    let mut vertices = [NUMBER_BEFORE; 256];
+    let mut flags = [FLAG_BEFORE; 88];
+    let mut indexes = [INDEX_BEFORE; 88];
+    let count = read_word() as usize;
+    let closed = read_word() == 1;
+    let offset = read_number();
+    let eps = read_number();
+    let lent = Lent {
+        source: count,
+        numbers: read_word() as usize,
+        flags: read_word() as usize,
+        indexes: read_word() as usize,
+    };
+    read_source(count, &mut source);
+    job(
+        lent,
+        &source,
+        closed,
+        offset,
+        eps,
+        &mut vertices,
+        &mut flags,
+        &mut indexes,
+    );
+}
+
+// Goes up and down by 1, with an arc from each upper vertex.
+fn zigzag(source: &mut [f64]) {
+    let mut x = 0.0;
+    let mut y = 0.0;
+    for i in 0..source.len() / 3 {
+        source[3 * i] = x;
+        source[3 * i + 1] = y;
+        source[3 * i + 2] = 0.25 * y;
+        x = x + 1.0;
+        y = 1.0 - y;
+    }
+}
+
+// The zigzag's first vertices, with room for 2 · 4096.
+fn long(numbers: usize, closed: bool) {
+    let mut source = [0.0; 12291];
+    let mut vertices = [NUMBER_BEFORE; 24579];
+    let mut flags = [FLAG_BEFORE; 8193];
+    let mut indexes = [INDEX_BEFORE; 8193];
+    zigzag(&mut source);
+    let lent = Lent {
+        source: numbers,
+        numbers: 24576,
+        flags: 8192,
+        indexes: 8192,
+    };
+    job(
+        lent,
+        &source,
+        closed,
+        0.125,
+        1e-5,
+        &mut vertices,
+        &mut flags,
+        &mut indexes,
+    );
+}
+
+fn rows() {
+    let count = read_word();
+    for _ in 0..count {
+        row();
+    }
+}
+
+fn main() {
+    rows();
+    // 4096 vertices are taken, and one more is not
+    long(12288, false);
+    long(12288, true);
+    long(12291, false);
+    long(12291, true);
+}

@@ -1,0 +1,94 @@
+-- Rows of stores that make up a line or a text, and how long lines are. Assumes nothing.
+use mathlib.Core.Path.{_≡_, refl, sym, ap, _∙_}
+use mathlib.Core.List.{List, [], _∷_, _++_}
+use mathlib.Core.Bool.{Bool}
+use Prim.Native.Nat.{ℕ, zero, suc, _+_, _*_, _<_, _≤_}
+use native.Mathlib.Nat.{zero-add}
+use native.Mathlib.Omega.{arith}
+use borrow.Author.Tests.{le-leb, lt-leb}
+use lib.ListN.{length, drop, length-append}
+use lib.Seq.{length-take-le, sets}
+use Rattle.io.specs.Counts.{Counts}
+use lib.Ieee.{Float, binary64, toBits}
+use Rattle.floats.proofs.Choice.{yes, no}
+use Rattle.packed.specs.Text.{_then_, decimalOf, hexOf, space, lineEnd, wordOf, headOf, lineOf, lineAt, linesOf, textOf, printedOf}
+use Rattle.packed.proofs.Writing.{sets-next, sets-front, place-next}
+use Rattle.packed.proofs.Digits.{length-digits, length-then}
+
+-- a text from the start on, and the rest as it was: how a public function ends
+abbrev pub Shown : List ℕ → List ℕ → ℕ → List ℕ → Type 0
+Shown text l₀ n l = Counts n l × ((n ≡ length text) × (l ≡ text ++ drop n l₀))
+
+pub shown : (text l₀ l : List ℕ) (n : ℕ) → n ≡ length text → l ≡ text ++ drop n l₀ → Shown text l₀ n l
+shown text l₀ l n e q =
+    let m : n ≤ length l = rw (q, length-append) (omega arith) in
+    ((m, sym (length-take-le n l m)), (e, q))
+
+-- two rows
+pub two-rows : (l₀ xs ys : List ℕ) {l₁ l₂ : List ℕ} {i j : ℕ} → l₁ ≡ sets l₀ 0 xs → i ≡ length xs → l₂ ≡ sets l₁ i ys → j ≡ i + length ys → j ≤ length l₀ → Shown (xs ++ ys) l₀ j l₂
+two-rows l₀ xs ys {l₁} {l₂} {i} {j} e p q r h =
+    let s : i ≡ 0 + length xs = omega arith in
+    let n : j ≡ length (xs ++ ys) = omega (arith, length-append xs ys) in
+    shown (xs ++ ys) l₀ l₂ j n (sets-next l₀ 0 xs ys e s q ∙ sets-front l₀ (xs ++ ys) (omega arith) ∙ ap (λ k. (xs ++ ys) ++ drop k l₀) (sym n))
+
+-- ---- the first line
+
+pub head : (count : ℕ) (closed : Bool) (l₀ : List ℕ) {l₁ l₂ l₃ : List ℕ} {i j k : ℕ} →
+    l₁ ≡ sets l₀ 0 (decimalOf 0 then space) → i ≡ 0 + length (decimalOf 0 then space) →
+    l₂ ≡ sets l₁ i (decimalOf count then space) → j ≡ i + length (decimalOf count then space) →
+    l₃ ≡ sets l₂ j (wordOf closed then lineEnd) → k ≡ j + length (wordOf closed then lineEnd) →
+    (k ≡ length (headOf count closed)) × (l₃ ≡ sets l₀ 0 (headOf count closed))
+unfolding headOf
+head count closed l₀ e p f q g r =
+    let a = decimalOf 0 then space in
+    let b = decimalOf count then space in
+    let w = wordOf closed then lineEnd in
+    let s = place-next 0 a b p q in
+    (place-next 0 (a ++ b) w s r ∙ zero-add _, sets-next l₀ 0 (a ++ b) w (sets-next l₀ 0 a b e p f) s g)
+
+-- ---- the line of a vertex
+
+length-hex : (x : Float) → length (hexOf x) ≡ 16
+unfolding hexOf
+length-hex x = length-digits 16 16 (toBits binary64 x)
+
+length-number : (x : Float) → length (hexOf x then space) ≡ 17
+length-number x = length-then (hexOf x) space ∙ ap (λ k. k + 1) (length-hex x)
+
+pub length-line : (x y b : Float) (mark : ℕ) → length (lineOf x y b mark) ≡ 53
+unfolding lineOf
+length-line x y b mark = simp (length-append, length-hex)
+
+pub line : (x y b : Float) (mark : ℕ) (l₀ : List ℕ) (at : ℕ) {l₁ l₂ l₃ l₄ : List ℕ} →
+    l₁ ≡ sets l₀ at (hexOf x then space) → l₂ ≡ sets l₁ (at + 17) (hexOf y then space) → l₃ ≡ sets l₂ (at + 34) (hexOf b then space) →
+    l₄ ≡ sets l₃ (at + 51) (mark ∷ lineEnd ∷ []) → l₄ ≡ sets l₀ at (lineOf x y b mark)
+unfolding lineOf
+line x y b mark l₀ at e f g h =
+    let i = length-number x in
+    let j = length-number y in
+    let k = length-number b in
+    let u = hexOf x then space in
+    let v = hexOf y then space in
+    let w = hexOf b then space in
+    let p : at + 17 ≡ at + length u = omega arith in
+    let q : at + 34 ≡ at + length (u ++ v) = omega (arith, length-append u v) in
+    let r : at + 51 ≡ at + length (u ++ v ++ w) = omega (arith, length-append u v, length-append (u ++ v) w) in
+    sets-next l₀ at (u ++ v ++ w) (mark ∷ lineEnd ∷ []) (sets-next l₀ at (u ++ v) w (sets-next l₀ at u v e p f) q g) r h
+
+pub length-lines : (count : ℕ) (closed : Bool) (vertices : List Float) (flags : List ℕ) (k : ℕ) → length (linesOf count closed vertices flags k) ≡ 53 * k
+unfolding linesOf lineAt
+length-lines count closed vertices flags zero = refl
+length-lines count closed vertices flags (suc k) =
+    let l = length-lines count closed vertices flags k in
+    rw (length-append, length-line) (omega arith)
+
+-- ---- what is printed
+
+module _ (count : ℕ) (closed : Bool) (vertices : List Float) (flags : List ℕ) where
+  pub printed-text : count ≤ 1024 → textOf count closed vertices flags ≡ printedOf count closed vertices flags
+  unfolding printedOf
+  printed-text h = yes _ _ _ (le-leb _ _ h) refl
+
+  pub printed-none : 1024 < count → [] ≡ printedOf count closed vertices flags
+  unfolding printedOf
+  printed-none h = no _ _ _ (lt-leb _ _ h) refl

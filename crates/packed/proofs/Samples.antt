@@ -1,0 +1,96 @@
+-- Samples: 01 §5's text and others like it, and small packed jobs, well formed and malformed. Assumes nothing.
+use mathlib.Core.Path.{_≡_, refl}
+use mathlib.Core.List.{List, [], _∷_, _++_, map}
+use mathlib.Core.Bool.{Bool, true, false}
+use Prim.Native.Nat.{ℕ}
+use lib.ListN.{replicate}
+use lib.Ieee.{Float, binary64, ofBits, toBits}
+use Rattle.floats.specs.Choice.{pick, _and_}
+use Rattle.packed.specs.declared.job.Packed.the-variants.{Job}
+use Rattle.packed.specs.Packed.{bigEndian, numberAt, headerOf, closedOf, zeroOf, countOf, offsetOf, epsOf, numbersOf, sourceOf, wellFormed, jobOf, decoded, decodedOf}
+use Rattle.packed.specs.Text.{ascii, placesOf, decimalOf, hexOf, refusalOf, headOf, markOf, lineOf, lineAt, linesOf, textOf, printedOf}
+
+-- all that the samples look through
+unfoldable pub opened : Unit {0}
+unfolding pick _and_ ofBits toBits bigEndian numberAt headerOf closedOf zeroOf countOf offsetOf epsOf numbersOf sourceOf wellFormed jobOf decodedOf placesOf decimalOf hexOf refusalOf headOf markOf lineOf lineAt linesOf textOf printedOf
+opened = tt
+
+abbrev pub numbers : List ℕ → List Float
+numbers ns = map (ofBits binary64) ns
+
+abbrev pub one : ℕ
+one = 0x3ff0_0000_0000_0000
+
+abbrev pub two : ℕ
+two = 0x4000_0000_0000_0000
+
+abbrev pub four : ℕ
+four = 0x4010_0000_0000_0000
+
+abbrev pub nan : ℕ
+nan = 0x7ff8_0000_0000_0000
+
+-- ---- text
+
+-- (0,2)(4,2)(2,0)(2,1), and a vertex more, which is not printed
+abbrev pub corners : List Float
+corners = numbers (0 ∷ two ∷ 0 ∷ four ∷ two ∷ 0 ∷ two ∷ 0 ∷ 0 ∷ two ∷ one ∷ 0 ∷ one ∷ one ∷ one ∷ [])
+
+-- 01 §5: the sixth row
+pub sixth-row :
+    printedOf 4 false corners (0 ∷ 1 ∷ 0 ∷ 0 ∷ [])
+    ≡ ascii "0 4 open\n"
+    ++ ascii "0000000000000000 4000000000000000 0000000000000000 .\n"
+    ++ ascii "4010000000000000 4000000000000000 0000000000000000 !\n"
+    ++ ascii "4000000000000000 0000000000000000 0000000000000000 .\n"
+    ++ ascii "4000000000000000 3ff0000000000000 0000000000000000 -\n"
+unfolding opened
+sixth-row = refl
+
+-- each vertex of a closed answer has a mark, the last too; a NaN has one text, and −0 keeps its sign
+pub closed-pair :
+    printedOf 2 true (numbers (nan ∷ 0x8000_0000_0000_0000 ∷ 0x7ff0_0000_0000_0000 ∷ one ∷ two ∷ four ∷ [])) (0 ∷ 1 ∷ [])
+    ≡ ascii "0 2 closed\n"
+    ++ ascii "7ff8000000000000 8000000000000000 7ff0000000000000 .\n"
+    ++ ascii "3ff0000000000000 4000000000000000 4010000000000000 !\n"
+unfolding opened
+closed-pair = refl
+
+pub nothing : printedOf 0 false corners [] ≡ ascii "0 0 open\n"
+unfolding opened
+nothing = refl
+
+pub heads : headOf 9 false ∷ headOf 10 true ∷ headOf 1024 true ∷ [] ≡ ascii "0 9 open\n" ∷ ascii "0 10 closed\n" ∷ ascii "0 1024 closed\n" ∷ []
+unfolding opened
+heads = refl
+
+pub refusals : refusalOf 7 0 ∷ refusalOf 3 513 ∷ refusalOf 4294967295 4294967295 ∷ [] ≡ ascii "7 0\n" ∷ ascii "3 513\n" ∷ ascii "4294967295 4294967295\n" ∷ []
+unfolding opened
+refusals = refl
+
+-- ---- packed jobs
+
+-- 64 bits that begin so
+abbrev pub word : ℕ → ℕ → List ℕ
+word a b = a ∷ b ∷ replicate 6 0
+
+-- closed, one vertex: offset 1, ε 2, and (4, 0, a NaN of another pattern)
+abbrev pub vertex : List ℕ
+vertex = 0x80 ∷ 0x01 ∷ word 0x3f 0xf0 ++ word 0x40 0x00 ++ word 0x40 0x10 ++ word 0x00 0x00 ++ word 0xff 0xff
+
+pub one-vertex :
+    decodedOf vertex (numbers (one ∷ one ∷ one ∷ one ∷ []))
+    ≡ decoded (Job true 1 (ofBits binary64 one) (ofBits binary64 two)) (numbers (four ∷ 0 ∷ nan ∷ one ∷ []))
+unfolding opened
+one-vertex = refl
+
+-- a job of v vertices by its first two bytes and its size
+abbrev pub sized : ℕ → ℕ → ℕ → Bool
+sized a b n = wellFormed (a ∷ b ∷ replicate n 0)
+
+-- no vertex; one; 512; a byte too few, a byte too many; each zero bit set; 513; nothing at all
+pub shapes :
+    sized 0 0 16 ∷ sized 0x80 1 40 ∷ sized 2 0 12304 ∷ sized 0 1 39 ∷ sized 0 1 41 ∷ sized 0x10 0 16 ∷ sized 0x20 0 16 ∷ sized 0x40 0 16 ∷ sized 2 1 12328 ∷ wellFormed [] ∷ []
+    ≡ true ∷ true ∷ true ∷ false ∷ false ∷ false ∷ false ∷ false ∷ false ∷ false ∷ []
+unfolding opened
+shapes = refl

@@ -1,0 +1,69 @@
+-- The packed job that `rawoffset` reads (01 §5), over the list of its bytes: fields stand most significant first. Definitions only.
+use Prim.Native.Nat.{ℕ, zero, suc, _+_, _*_, _/_, _%_}
+use mathlib.Core.List.{List, [], _∷_, _++_}
+use mathlib.Core.Bool.{Bool}
+use lib.Dec.{eqb, leb}
+use lib.ListN.{length, getD, drop}
+use lib.Ieee.{Float, binary64, ofBits}
+use Rattle.floats.specs.Choice.{pick, _and_}
+use Rattle.packed.specs.declared.job.Packed.{Packed}
+use Rattle.packed.specs.declared.job.Packed.the-variants.{Job, Malformed}
+
+-- the number in k bytes from place i on
+unfoldable pub bigEndian : List ℕ → ℕ → ℕ → ℕ
+bigEndian bytes i zero = 0
+bigEndian bytes i (suc k) = bigEndian bytes i k * 256 + getD bytes (i + k) 0
+
+-- 64 bits from place i on: the number with these bits, a NaN for each NaN's pattern
+unfoldable pub numberAt : List ℕ → ℕ → Float
+numberAt bytes i = ofBits binary64 (bigEndian bytes i 8)
+
+-- 01 §5: the first 16 bits are closed (1 bit), zero (3 bits) and v (12 bits)
+unfoldable pub headerOf : List ℕ → ℕ
+headerOf bytes = bigEndian bytes 0 2
+
+unfoldable pub closedOf : List ℕ → Bool
+closedOf bytes = eqb (headerOf bytes / 32768) 1
+
+unfoldable pub zeroOf : List ℕ → ℕ
+zeroOf bytes = headerOf bytes / 4096 % 8
+
+unfoldable pub countOf : List ℕ → ℕ
+countOf bytes = headerOf bytes % 4096
+
+-- 01 §5: then 64 bits each for the offset, ε, and x, y and bulge of each vertex
+unfoldable pub offsetOf : List ℕ → Float
+offsetOf bytes = numberAt bytes 2
+
+unfoldable pub epsOf : List ℕ → Float
+epsOf bytes = numberAt bytes 10
+
+-- the first k numbers of the vertices
+unfoldable pub numbersOf : List ℕ → ℕ → List Float
+numbersOf bytes zero = []
+numbersOf bytes (suc k) = numbersOf bytes k ++ numberAt bytes (18 + 8 * k) ∷ []
+
+unfoldable pub sourceOf : List ℕ → List Float
+sourceOf bytes = numbersOf bytes (3 * countOf bytes)
+
+-- 01 §5: the size fits the count, no zero bit is set, and there are at most 512 vertices
+unfoldable pub wellFormed : List ℕ → Bool
+wellFormed bytes = eqb (length bytes) (2 + 16 + 24 * countOf bytes) and eqb (zeroOf bytes) 0 and leb (countOf bytes) 512
+
+unfoldable pub jobOf : List ℕ → Packed
+jobOf bytes = Job (closedOf bytes) (countOf bytes) (offsetOf bytes) (epsOf bytes)
+
+-- the answer and what the lent list holds
+pub record Decoded : Type 0 where
+  pub answer : Packed
+  pub source : List Float
+
+abbrev pub decoded : Packed → List Float → Decoded
+decoded p s = record { answer = p; source = s }
+
+-- The job, with the vertices' numbers at the start of the list and the rest as it was; or malformed, and the list as it was.
+unfoldable pub decodedOf : List ℕ → List Float → Decoded
+decodedOf bytes old =
+    pick (wellFormed bytes)
+    (decoded (jobOf bytes) (sourceOf bytes ++ drop (3 * countOf bytes) old))
+    (decoded Malformed old)

@@ -1,0 +1,78 @@
+-- The text that `rawoffset` prints (01 §5), as the list of its bytes. Definitions only.
+use Prim.Native.Nat.{ℕ, zero, suc, _+_, _*_, _/_}
+use Prim.Native.Char.{code}
+use Prim.Native.String.{String, [] as ε, _∷_ as _◂_}
+use mathlib.Core.List.{List, [], _∷_, _++_}
+use mathlib.Core.Bool.{Bool, not}
+use lib.Dec.{eqb, ltb, leb}
+use lib.ListN.{getD}
+use lib.Ieee.{Float, binary64, toBits, nan}
+use Rattle.floats.specs.Choice.{pick, _and_}
+use Rattle.io.specs.Digits.{digits}
+
+-- a text's bytes
+abbrev pub ascii : String → List ℕ
+ascii ε = []
+ascii (c ◂ t) = code c ∷ ascii t
+
+abbrev pub space : ℕ
+space = code " "
+
+abbrev pub lineEnd : ℕ
+lineEnd = code "\n"
+
+-- a word and the byte after it
+abbrev pub _then_ : List ℕ → ℕ → List ℕ
+w then end = w ++ end ∷ []
+
+-- how many digits n takes in base 10, up to d + 1
+unfoldable pub placesOf : ℕ → ℕ → ℕ
+placesOf zero n = 1
+placesOf (suc d) n = pick (ltb n 10) 1 (suc (placesOf d (n / 10)))
+
+-- n in decimal, with no zero in front; 64 bits take at most 20 digits
+unfoldable pub decimalOf : ℕ → List ℕ
+decimalOf n = digits 10 (placesOf 19 n) n
+
+-- the bits of x in 16 hexadecimal digits
+unfoldable pub hexOf : Float → List ℕ
+hexOf x = digits 16 16 (toBits binary64 x)
+
+-- 01 §5: a refusal is its number and its place
+unfoldable pub refusalOf : ℕ → ℕ → List ℕ
+refusalOf number place = (decimalOf number then space) ++ (decimalOf place then lineEnd)
+
+abbrev pub wordOf : Bool → List ℕ
+wordOf closed = pick closed (ascii "closed") (ascii "open")
+
+-- 01 §5: the first line is 0, the count of vertices, and the closed mark
+unfoldable pub headOf : ℕ → Bool → List ℕ
+headOf count closed = (decimalOf 0 then space) ++ (decimalOf count then space) ++ (wordOf closed then lineEnd)
+
+-- `-` where no segment leaves the vertex; else `!` where the flag of that segment is 1, and `.` where it is 0
+unfoldable pub markOf : Bool → ℕ → ℕ
+markOf last flag = pick last (code "-") (pick (eqb flag 1) (code "!") (code "."))
+
+-- 01 §5: a vertex's line is x, y and bulge by their bits, and the mark of the segment that leaves it
+unfoldable pub lineOf : Float → Float → Float → ℕ → List ℕ
+lineOf x y bulge mark = (hexOf x then space) ++ (hexOf y then space) ++ (hexOf bulge then space) ++ (mark ∷ lineEnd ∷ [])
+
+-- the line of vertex i: no segment leaves the last of an open answer
+unfoldable pub lineAt : ℕ → Bool → List Float → List ℕ → ℕ → List ℕ
+lineAt count closed vertices flags i =
+    lineOf (getD vertices (3 * i) nan) (getD vertices (3 * i + 1) nan) (getD vertices (3 * i + 2) nan)
+    (markOf (not closed and eqb (i + 1) count) (getD flags i 0))
+
+-- the lines of the first k vertices
+unfoldable pub linesOf : ℕ → Bool → List Float → List ℕ → ℕ → List ℕ
+linesOf count closed vertices flags zero = []
+linesOf count closed vertices flags (suc k) = linesOf count closed vertices flags k ++ lineAt count closed vertices flags k
+
+unfoldable pub textOf : ℕ → Bool → List Float → List ℕ → List ℕ
+textOf count closed vertices flags = headOf count closed ++ linesOf count closed vertices flags count
+
+-- 512 closed vertices are offset to 1024 at most: of more than that nothing is printed
+unfoldable pub printedOf : ℕ → Bool → List Float → List ℕ → List ℕ
+printedOf count closed vertices flags = pick (leb count 1024) (textOf count closed vertices flags) []
+
+infixl 8 _then_

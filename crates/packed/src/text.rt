@@ -1,0 +1,162 @@
+// The text of an answer, into a lent buffer that has room for the longest: 1024 vertices. `Counts` is there for whoever
+// writes the text out: with it `&out[..n]` is known to be in range.
+ghost use mathlib.Core.Path.{_≡_};
+ghost use mathlib.Core.List.{[], _∷_, _++_};
+ghost use mathlib.Core.Bool.{not};
+ghost use Prim.Native.Nat.{_+_, _*_, _≤_, _<_};
+ghost use lib.Dec.{eqb};
+ghost use lib.ListN.{length, drop};
+ghost use lib.Seq.{sets};
+ghost use Rattle.floats.specs.Choice.{_and_};
+ghost use Rattle.io.specs.Counts.{Counts};
+ghost use Rattle.packed.specs.Text.{_then_, decimalOf, hexOf, space, lineEnd, lineOf, markOf, linesOf, wordOf, headOf, refusalOf, printedOf};
+
+// A refusal: its number and its place. Answers the length of the text.
+pub fn put_refusal(number: u32, place: u32, out: &mut [u8; 65536]) -> usize
+    ensures { λ r. ⌜ Counts r (now (out .exit)) ⌝ }
+    ensures { λ r. ⌜ r ≡ length (refusalOf number place) ⌝ }
+    ensures { λ r. ⌜ now (out .exit) ≡ refusalOf number place ++ drop r (now (out .entry)) ⌝ }
+{
+    let at = put_decimal(number as u64, b' ', out, 0);
+    put_decimal(place as u64, b'\n', out, at)
+}
+
+// An answer: a line for the count and the closed mark, and a line for each vertex. Answers the length of the text:
+// 0, with nothing written, where there are more vertices than a packed job's answer can have.
+pub fn put_answer(
+    count: usize,
+    closed: bool,
+    vertices: &[f64; 3072],
+    flags: &[u8; 1024],
+    out: &mut [u8; 65536],
+) -> usize
+    ensures { λ r. ⌜ Counts r (now (out .exit)) ⌝ }
+    ensures { λ r. ⌜ r ≡ length (printedOf count closed (now (vertices .entry)) (now (flags .entry))) ⌝ }
+    ensures { λ r. ⌜ now (out .exit) ≡ printedOf count closed (now (vertices .entry)) (now (flags .entry)) ++ drop r (now (out .entry)) ⌝ }
+{
+    if count > 1024 {
+        return 0;
+    }
+    let at = put_head(count as u64, closed, out);
+    put_lines(count, closed, vertices, flags, out, at);
+    at + 53 * count
+}
+
+fn put_head(count: u64, closed: bool, out: &mut [u8]) -> usize
+    requires { ⌜ 49 ≤ length (now out) ⌝ }
+    ensures { λ r. ⌜ r ≡ length (headOf count closed) ⌝ }
+    ensures { λ r. ⌜ r ≤ 49 ⌝ }
+    ensures { λ _. ⌜ now (out .exit) ≡ sets (now (out .entry)) 0 (headOf count closed) ⌝ }
+{
+    let done = put_decimal(0, b' ', out, 0);
+    let at = put_decimal(count, b' ', out, done);
+    put_closed(closed, out, at)
+}
+
+// The closed mark and the line's end. Answers the place past these.
+fn put_closed(closed: bool, out: &mut [u8], at: usize) -> usize
+    requires { ⌜ at + 7 ≤ length (now out) ⌝ }
+    ensures { λ r. ⌜ r ≡ at + length (wordOf closed then lineEnd) ⌝ }
+    ensures { λ r. ⌜ r ≤ at + 7 ⌝ }
+    ensures { λ _. ⌜ now (out .exit) ≡ sets (now (out .entry)) at (wordOf closed then lineEnd) ⌝ }
+{
+    if closed {
+        put(b"closed", b'\n', out, at);
+        return at + 7;
+    }
+    put(b"open", b'\n', out, at);
+    at + 5
+}
+
+fn put_lines(count: usize, closed: bool, vertices: &[f64], flags: &[u8], out: &mut [u8], at: usize)
+    requires { ⌜ 3 * count ≤ length (now vertices) ⌝ }
+    requires { ⌜ count ≤ length (now flags) ⌝ }
+    requires { ⌜ at + 53 * count ≤ length (now out) ⌝ }
+    ensures { λ _. ⌜ now (out .exit) ≡ sets (now (out .entry)) at (linesOf count closed (now (vertices .entry)) (now (flags .entry)) count) ⌝ }
+{
+    for i in 0..count {
+        let j = 3 * i;
+        let mark = mark_of(is_last(count, closed, i), flags[i]);
+        put_line(
+            vertices[j],
+            vertices[j + 1],
+            vertices[j + 2],
+            mark,
+            out,
+            at + 53 * i,
+        );
+    }
+}
+
+// No segment leaves the last vertex of an open answer.
+fn is_last(count: usize, closed: bool, i: usize) -> bool
+    requires { ⌜ i < count ⌝ }
+    ensures { λ r. ⌜ r ≡ (not closed and eqb (i + 1) count) ⌝ }
+{
+    !closed && i + 1 == count
+}
+
+fn mark_of(last: bool, flag: u8) -> u8
+    ensures { λ r. ⌜ r ≡ markOf last flag ⌝ }
+{
+    if last {
+        return b'-';
+    }
+    if flag == 1 {
+        return b'!';
+    }
+    b'.'
+}
+
+fn put_line(x: f64, y: f64, bulge: f64, mark: u8, out: &mut [u8], at: usize)
+    requires { ⌜ at + 53 ≤ length (now out) ⌝ }
+    ensures { λ _. ⌜ now (out .exit) ≡ sets (now (out .entry)) at (lineOf x y bulge mark) ⌝ }
+{
+    put_hex(x, out, at);
+    put_hex(y, out, at + 17);
+    put_hex(bulge, out, at + 34);
+    put_mark(mark, out, at + 51);
+}
+
+fn put_mark(mark: u8, out: &mut [u8], at: usize)
+    requires { ⌜ at + 2 ≤ length (now out) ⌝ }
+    ensures { λ _. ⌜ now (out .exit) ≡ sets (now (out .entry)) at (mark ∷ lineEnd ∷ []) ⌝ }
+{
+    out[at] = mark;
+    out[at + 1] = b'\n';
+}
+
+// The bits of x and a space.
+fn put_hex(x: f64, out: &mut [u8], at: usize)
+    requires { ⌜ at + 17 ≤ length (now out) ⌝ }
+    ensures { λ _. ⌜ now (out .exit) ≡ sets (now (out .entry)) at (hexOf x then space) ⌝ }
+{
+    let mut digits = [0u8; 16];
+    let n = io::hex(bits::bits_of(x), 16, &mut digits);
+    put(&digits[..n], b' ', out, at);
+}
+
+// A number and the byte after it. Answers the place past these.
+fn put_decimal(number: u64, end: u8, out: &mut [u8], at: usize) -> usize
+    requires { ⌜ at + 21 ≤ length (now out) ⌝ }
+    ensures { λ r. ⌜ r ≡ at + length (decimalOf number then end) ⌝ }
+    ensures { λ r. ⌜ r ≤ at + 21 ⌝ }
+    ensures { λ _. ⌜ now (out .exit) ≡ sets (now (out .entry)) at (decimalOf number then end) ⌝ }
+{
+    let mut digits = [0u8; 20];
+    let n = io::decimal(number, &mut digits);
+    put(&digits[..n], end, out, at);
+    at + n + 1
+}
+
+// A word and the byte after it.
+fn put(word: &[u8], end: u8, out: &mut [u8], at: usize)
+    requires { ⌜ at + length (now word) < length (now out) ⌝ }
+    ensures { λ _. ⌜ now (out .exit) ≡ sets (now (out .entry)) at (now (word .entry) then end) ⌝ }
+{
+    let n = word.len();
+    for i in 0..n {
+        out[at + i] = word[i];
+    }
+    out[at + n] = end;
+}

@@ -1,0 +1,183 @@
+//! The stored input and output of the program that works whole jobs.
+//!
+//! The input is words of eight bytes, highest byte first: the count of rows, then for each row the
+//! numbers of its source, closed, offset, ε, the three rooms, and the source. The output has a line
+//! for each, then for four long jobs that the program makes itself.
+
+use crate::{edges, jobs};
+use oracle::generate::{FAMILIES, Random, Steering};
+use oracle::stage::{BEFORE, Job, Outcome};
+use oracle::text::bits;
+use oracle::traced::{Site, Table, Trace, job as traced_job};
+use std::fmt::Write;
+use std::path::Path;
+use std::{fs, io};
+
+/// The places of the program's source and buffers for a row, and for a long job.
+const SOURCE: usize = 128;
+const SHORT: [usize; 3] = [256, 88, 88];
+const LONG: [usize; 3] = [24579, 8193, 8193];
+
+/// Drawings of more vertices are told by their checksums alone.
+const MOST_SHOWN: u32 = 16;
+
+/// Random jobs of each family.
+const OF_A_FAMILY: usize = 4;
+
+/// How often a turn is looked for.
+const TRIES: usize = 20_000;
+
+const SEED: u64 = 9;
+
+pub fn write(folder: &Path) -> io::Result<()> {
+    let kinds = [
+        (
+            "01's rows, settled points and every branch",
+            jobs::all().collect(),
+        ),
+        ("rooms", edges::rooms()),
+        ("limits", edges::limits()),
+        ("refusals and their order", edges::refusals()),
+        ("short and ragged", edges::short()),
+        ("offset zero and next to it", edges::zeros()),
+        ("random", random()),
+        ("either side of a turn", steered()),
+    ];
+    for (name, jobs) in &kinds {
+        println!("{name:44} {:>5}", jobs.len());
+    }
+    let rows: Vec<Job> = kinds.into_iter().flat_map(|(_, jobs)| jobs).collect();
+    print_reached(&rows);
+    let mut input = (rows.len() as u64).to_be_bytes().to_vec();
+    let mut output = String::new();
+    for job in &rows {
+        input.extend(packed(job));
+        output += &line(&worked(job, SHORT));
+    }
+    for job in long() {
+        output += &line(&worked(&job, LONG));
+    }
+    fs::write(folder.join("stdin"), input)?;
+    fs::write(folder.join("stdout"), output)
+}
+
+fn packed(job: &Job) -> Vec<u8> {
+    assert!(fits(job), "no place for {job:?}");
+    let mut words = vec![
+        job.source.len() as u64,
+        job.closed.into(),
+        job.offset.to_bits(),
+        job.eps.to_bits(),
+    ];
+    words.extend(job.room.map(|count| count as u64));
+    words.extend(job.source.iter().map(|number| number.to_bits()));
+    words.into_iter().flat_map(u64::to_be_bytes).collect()
+}
+
+fn fits(job: &Job) -> bool {
+    job.source.len() <= SOURCE && job.room.iter().zip(SHORT).all(|(room, most)| *room <= most)
+}
+
+/// The answer and all places, also those past what was lent.
+fn worked(job: &Job, places: [usize; 3]) -> Outcome {
+    let mut vertices = vec![BEFORE.0; places[0]];
+    let mut flags = vec![BEFORE.1; places[1]];
+    let mut indexes = vec![BEFORE.2; places[2]];
+    let answer = oracle::job(
+        &job.source,
+        job.closed,
+        job.offset,
+        job.eps,
+        &mut vertices[..job.room[0]],
+        &mut flags[..job.room[1]],
+        &mut indexes[..job.room[2]],
+    );
+    Outcome {
+        answer,
+        vertices: vertices.into_iter().map(f64::to_bits).collect(),
+        flags,
+        indexes,
+    }
+}
+
+/// The answer, then for each buffer what was drawn, if that is short, and a checksum.
+fn line(outcome: &Outcome) -> String {
+    let mut line = outcome.answer.map(|number| number.to_string()).join(" ");
+    let (mut numbers, mut flags, mut indexes) = (Vec::new(), Vec::new(), Vec::new());
+    if outcome.answer[2] <= MOST_SHOWN {
+        numbers.extend(outcome.drawn().as_flattened().iter().map(|x| bits(*x)));
+        flags.extend(outcome.drawn_flags().iter().map(u8::to_string));
+        indexes.extend(outcome.invalid().iter().map(u32::to_string));
+    }
+    let sums = [
+        checksum(outcome.vertices.iter().copied()),
+        checksum(outcome.flags.iter().copied().map(u64::from)),
+        checksum(outcome.indexes.iter().copied().map(u64::from)),
+    ];
+    for (shown, sum) in [numbers, flags, indexes].into_iter().zip(sums) {
+        for word in shown {
+            write!(line, " {word}").expect("a string takes all");
+        }
+        write!(line, " sum {sum:016x}").expect("a string takes all");
+    }
+    line + "\n"
+}
+
+/// Tells places apart: before each word the sum is added to itself turned by five.
+fn checksum(words: impl Iterator<Item = u64>) -> u64 {
+    words.fold(0, |sum: u64, word| {
+        sum.rotate_left(5).wrapping_add(sum).wrapping_add(word)
+    })
+}
+
+/// The zigzag at the limit of vertices and one above it.
+fn long() -> impl Iterator<Item = Job> {
+    let vertex = |i: usize| [i as f64, (i % 2) as f64, 0.25 * (i % 2) as f64];
+    [(4096, false), (4096, true), (4097, false), (4097, true)]
+        .into_iter()
+        .map(move |(v, closed)| {
+            let mut job = Job::new(closed, 0.125, 1e-5, (0..v).flat_map(vertex).collect());
+            job.lend(2 * 4096);
+            job
+        })
+}
+
+fn random() -> Vec<Job> {
+    let mut source = Random::new(SEED);
+    let mut jobs = Vec::new();
+    for (_, family) in FAMILIES {
+        let drawn: Vec<Job> = (0..100).map(|_| family(&mut source)).collect();
+        jobs.extend(drawn.into_iter().filter(fits).take(OF_A_FAMILY));
+    }
+    jobs
+}
+
+/// For each test that can be found to turn an answer, the two neighbouring doubles where it does.
+fn steered() -> Vec<Job> {
+    let mut steering = Steering::new(SEED);
+    let mut jobs = Vec::new();
+    let mut seen = vec![false; Site::ALL.len()];
+    for _ in 0..TRIES {
+        let before = steering.turns.clone();
+        let six = steering.around_a_turn();
+        let turned = steering.turns.iter().zip(&before).position(|(n, m)| n > m);
+        if let ([_, _, low, high, _, _], Some(site)) = (six.as_slice(), turned)
+            && !seen[site]
+        {
+            seen[site] = true;
+            jobs.extend([low.clone(), high.clone()]);
+        }
+    }
+    jobs
+}
+
+/// Prints which tests and events the rows reach.
+fn print_reached(rows: &[Job]) {
+    let mut table = Table::default();
+    for job in rows.iter().cloned().chain(long()) {
+        let mut trace = Trace::new();
+        traced_job(&mut trace, &job);
+        table.add(&trace);
+    }
+    table.print();
+}
