@@ -21,8 +21,12 @@ fn main() {
             source.display()
         );
     }
+    let archives = here.join("../target/native");
     if env::var_os("CARGO_FEATURE_PROVED").is_some() {
-        link_proved(&here.join("../target/native"));
+        link(&archives, "blidrosk");
+    }
+    if env::var_os("CARGO_FEATURE_LAYERS").is_some() {
+        link(&archives, "layers");
     }
 }
 
@@ -35,9 +39,16 @@ fn include_000(source: &Path) {
     fs::write(out.join("internal.rs"), line).expect("the build folder can be written");
 }
 
-/// Links `libblidrosk.a`, the archive of the proved code.
-fn link_proved(folder: &Path) {
-    println!("cargo::rerun-if-changed={}", folder.display());
-    println!("cargo::rustc-link-search=native={}", folder.display());
-    println!("cargo::rustc-link-lib=static=blidrosk");
+/// Links an archive of proved code.
+fn link(folder: &Path, name: &str) {
+    let archive = folder.join(format!("lib{name}.a"));
+    println!("cargo::rerun-if-changed={}", archive.display());
+    if archive.is_file() {
+        println!("cargo::rustc-link-search=native={}", folder.display());
+        println!("cargo::rustc-link-lib=static={name}");
+    } else {
+        println!(
+            "cargo::error=target/native/lib{name}.a is missing: oracle/README.md says how to make it"
+        );
+    }
 }

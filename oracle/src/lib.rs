@@ -8,6 +8,8 @@ pub mod core;
 pub mod generate;
 #[cfg(with_000)]
 mod job;
+#[cfg(feature = "layers")]
+pub mod layers;
 #[cfg(with_000)]
 pub mod packed;
 pub mod polyline;

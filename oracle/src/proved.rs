@@ -6,7 +6,7 @@ unsafe extern "C" {
     fn blidrosk_raw_offset(
         source: *const f64,
         source_len: usize,
-        closed: u32,
+        closed: bool,
         offset: f64,
         eps: f64,
         vertices: *mut f64,
@@ -19,7 +19,11 @@ unsafe extern "C" {
     ) -> u32;
 }
 
-/// Works one job on the proved code.
+/// An answer that no job has.
+const TORN: Answer = [u32::MAX; 5];
+
+/// Works one job on the proved code. Its number comes back twice; where the two differ, the answer
+/// is `TORN`.
 pub fn job(
     source: &[f64],
     closed: bool,
@@ -29,13 +33,13 @@ pub fn job(
     flags: &mut [u8],
     indexes: &mut [u32],
 ) -> Answer {
-    let mut answer = [u32::MAX; 5];
+    let mut answer = TORN;
     // SAFETY: each pointer is lent with its own length, and the answer has five places.
-    unsafe {
+    let number = unsafe {
         blidrosk_raw_offset(
             source.as_ptr(),
             source.len(),
-            closed.into(),
+            closed,
             offset,
             eps,
             vertices.as_mut_ptr(),
@@ -45,7 +49,7 @@ pub fn job(
             indexes.as_mut_ptr(),
             indexes.len(),
             answer.as_mut_ptr(),
-        );
-    }
-    answer
+        )
+    };
+    if number == answer[0] { answer } else { TORN }
 }

@@ -1,8 +1,10 @@
 //! Jobs and outcomes as rows of text: words parted by one space, numbers as their 64 bits in
 //! sixteen hexadecimal digits. Any NaN is written 7ff8000000000000.
 //!
-//! A job: `closed offset eps v x y bulge ..`, closed being 0 or 1. An outcome: `number place
-//! vertices indexes closed`, the drawn numbers, one flag for each output segment, the indexes.
+//! A job: `closed offset eps v x y bulge ..`, closed being 0 or 1. Where its list is ragged, or it is
+//! lent other places than it needs and one more, `room numbers flags indexes` comes first, and the
+//! count of numbers stands for v. An outcome: `number place vertices indexes closed`, the drawn
+//! numbers, one flag for each output segment, the indexes.
 
 use crate::stage::{Job, Outcome};
 use std::fmt::Write;
@@ -12,14 +14,24 @@ pub fn bits(number: f64) -> String {
     format!("{:016x}", number.to_bits())
 }
 
-/// The row of a job whose list is not ragged.
+/// The row of a job whose list is not ragged, and which is lent what `Job::new` lends it.
 pub fn job_row(job: &Job) -> String {
+    row_of(job, job.source.len() / 3)
+}
+
+/// The row of any job.
+pub fn any_job_row(job: &Job) -> String {
+    let [numbers, flags, indexes] = job.room;
+    let row = row_of(job, job.source.len());
+    format!("room {numbers} {flags} {indexes} {row}")
+}
+
+fn row_of(job: &Job, count: usize) -> String {
     let mut row = format!(
-        "{} {} {} {}",
+        "{} {} {} {count}",
         u8::from(job.closed),
         bits(job.offset),
         bits(job.eps),
-        job.source.len() / 3
     );
     for number in &job.source {
         write!(row, " {}", bits(*number)).expect("a string takes all");
@@ -42,9 +54,22 @@ pub fn outcome_row(outcome: &Outcome) -> String {
     row
 }
 
-/// Reads what `job_row` writes.
+/// Reads what `job_row` and `any_job_row` write.
 pub fn read_job(row: &str) -> Option<Job> {
-    let mut words = row.split(' ');
+    let Some(rest) = row.strip_prefix("room ") else {
+        return read_words(&mut row.split(' '), 3);
+    };
+    let mut words = rest.split(' ');
+    let mut room = [0; 3];
+    for places in &mut room {
+        *places = words.next()?.parse().ok()?;
+    }
+    let job = read_words(&mut words, 1)?;
+    Some(Job { room, ..job })
+}
+
+/// Reads a job whose row says how many times `each` numbers there are.
+fn read_words<'a>(words: &mut impl Iterator<Item = &'a str>, each: usize) -> Option<Job> {
     let closed = match words.next()? {
         "0" => false,
         "1" => true,
@@ -52,9 +77,9 @@ pub fn read_job(row: &str) -> Option<Job> {
     };
     let offset = number(words.next()?)?;
     let eps = number(words.next()?)?;
-    let v: usize = words.next()?.parse().ok()?;
+    let count: usize = words.next()?.parse().ok()?;
     let source: Vec<f64> = words.map(number).collect::<Option<_>>()?;
-    (source.len() == 3 * v).then(|| Job::new(closed, offset, eps, source))
+    (source.len() == each * count).then(|| Job::new(closed, offset, eps, source))
 }
 
 fn number(word: &str) -> Option<f64> {

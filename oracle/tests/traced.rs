@@ -3,7 +3,7 @@
 
 use oracle::generate::{FAMILIES, Random, Steering};
 use oracle::stage::Job;
-use oracle::text::{job_row, read_job};
+use oracle::text::{any_job_row, job_row, read_job};
 use oracle::traced::stage as traced;
 
 fn agrees(job: &Job) {
@@ -36,6 +36,15 @@ fn a_job_is_read_as_it_was_written() {
     for _ in 0..1000 {
         let job = FAMILIES[0].1(&mut random);
         assert_eq!(read_job(&job_row(&job)), Some(job));
+    }
+    let (_, damaged) = FAMILIES
+        .iter()
+        .find(|f| f.0 == "damaged")
+        .expect("it is there");
+    for _ in 0..1000 {
+        let job = damaged(&mut random);
+        let read = read_job(&any_job_row(&job)).expect("a job");
+        assert_eq!(any_job_row(&read), any_job_row(&job));
     }
     assert_eq!(read_job("2 0 0 0"), None);
     assert_eq!(read_job("0 3ff0000000000000 3ee4f8b588e368f1 1 0"), None);

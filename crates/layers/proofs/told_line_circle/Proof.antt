@@ -1,0 +1,33 @@
+use borrow.Author.Needs.{needs}
+use Rattle.layers.proofs.told_line_circle.Statement.{statement}
+use Rattle.layers.proofs.told_line_circle.Tie as tie
+use Rattle.layers.proofs.told_line_circle.Reads as reads
+use Rattle.layers.proofs.told_line_circle.Lts as lts
+
+-- src/lib.rt:105:13
+enum-told : tie.Need-enum-told
+enum-told c = search needs
+
+-- src/lib.rt:108:44
+enum-known-i : tie.Need-enum-known-i
+enum-known-i c = search needs
+
+-- src/lib.rt:112:41
+enum-known-i-2 : tie.Need-enum-known-i-2
+enum-known-i-2 c = search needs
+
+-- src/lib.rt:100:1
+returns : tie.Need-returns
+returns c = cc
+
+-- src/lib.rt:100:1
+returns-2 : tie.Need-returns-2
+returns-2 c = cc
+
+-- src/lib.rt:100:1
+returns-3 : tie.Need-returns-3
+returns-3 c = cc
+
+pub told-line-circle-spec : {M : Type 1} → statement M
+told-line-circle-spec =
+    tie.close (tie.spec enum-told enum-known-i enum-known-i-2 returns returns-2 returns-3)

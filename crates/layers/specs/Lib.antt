@@ -1,0 +1,2 @@
+-- What the exports of inner functions say.
+pub mod Told

@@ -1,0 +1,73 @@
+//! Runs the sides of the comparison on the same jobs and holds their whole outcomes against each
+//! other: answer and every lent place.
+//!
+//! - `compare SEED RANDOM STEERED` runs the jobs of the grid, RANDOM random ones and about STEERED
+//!   steered ones, and says which tests and outcomes they reach.
+//! - `compare bulk SEED JOBS` runs the grid and JOBS random ones on 000 and the proved code alone.
+//! - `compare rows` runs the jobs that standard input holds, a row each, and prints their outcomes.
+//! - `compare cover SEED RANDOM STEERED` prints a short list of small jobs that reaches all that
+//!   these reach.
+//! - `compare layers SEED COUNT` holds the inner functions of the proved code to 01's arithmetic.
+
+#[cfg(with_000)]
+mod cover;
+#[cfg(with_000)]
+mod jobs;
+#[cfg(feature = "layers")]
+mod layers;
+#[cfg(with_000)]
+mod sides;
+#[cfg(with_000)]
+mod steered;
+
+use std::process::exit;
+
+fn main() {
+    let words: Vec<String> = std::env::args().skip(1).collect();
+    let (mode, numbers) = match words.split_first() {
+        Some((first, rest)) if first.parse::<u64>().is_err() => (first.as_str(), rest),
+        _ => ("", words.as_slice()),
+    };
+    let numbers: Option<Vec<u64>> = numbers.iter().map(|word| word.parse().ok()).collect();
+    let alike = numbers.and_then(|numbers| run(mode, &numbers));
+    match alike {
+        Some(true) => {}
+        Some(false) => exit(1),
+        None => {
+            eprintln!(
+                "usage: compare [cover] SEED RANDOM STEERED | bulk SEED JOBS | layers SEED COUNT | rows"
+            );
+            exit(2);
+        }
+    }
+}
+
+/// Whether all sides agree; nothing where the words mean nothing.
+fn run(mode: &str, numbers: &[u64]) -> Option<bool> {
+    match (mode, numbers) {
+        #[cfg(feature = "layers")]
+        ("layers", [seed, count]) => Some(layers::compare(*seed, *count)),
+        _ => run_jobs(mode, numbers),
+    }
+}
+
+#[cfg(not(with_000))]
+fn run_jobs(_: &str, _: &[u64]) -> Option<bool> {
+    eprintln!("compare: built without 000");
+    exit(oracle::WITHOUT_000);
+}
+
+#[cfg(with_000)]
+fn run_jobs(mode: &str, numbers: &[u64]) -> Option<bool> {
+    match (mode, numbers) {
+        ("", [seed, random, steered]) => Some(steered::compare(*seed, *random, *steered)),
+        ("cover", [seed, random, steered]) => {
+            cover::cover(*seed, *random, *steered);
+            Some(true)
+        }
+        #[cfg(feature = "proved")]
+        ("bulk", [seed, jobs]) => Some(sides::bulk(*seed, *jobs)),
+        ("rows", []) => Some(sides::rows()),
+        _ => None,
+    }
+}

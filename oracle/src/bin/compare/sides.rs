@@ -1,0 +1,116 @@
+//! The sides that are held against 000, and the count of what they were asked.
+
+#[cfg(feature = "proved")]
+use crate::jobs::each_plain_job;
+use oracle::stage::{Job, Outcome, Stage};
+use oracle::text::{any_job_row, outcome_row, read_job};
+use std::io::stdin;
+
+/// What is held against 000.
+pub const SIDES: &[(&str, Stage)] = &[
+    ("traced", oracle::traced::stage),
+    #[cfg(feature = "proved")]
+    PROVED,
+];
+
+#[cfg(feature = "proved")]
+const PROVED: (&str, Stage) = ("proved", oracle::proved::job);
+
+/// Differences are printed up to this many.
+const SHOWN: u64 = 10;
+
+/// The numbers of 01 §1: done, and six refusals.
+const NUMBERS: usize = 7;
+
+#[derive(Default)]
+pub struct Tally {
+    /// For each family, how many jobs were answered with each number.
+    families: Vec<(&'static str, [u64; NUMBERS])>,
+    pub jobs: u64,
+    pub differing: u64,
+}
+
+impl Tally {
+    /// Runs a job on 000 and on each of the sides.
+    pub fn hold(&mut self, family: &'static str, job: &Job, sides: &[(&str, Stage)]) {
+        let expected = job.run(oracle::job);
+        self.count(family, expected.answer[0] as usize);
+        for (name, side) in sides {
+            let outcome = job.run(*side);
+            if outcome != expected {
+                self.differing += 1;
+                if self.differing <= SHOWN {
+                    show(name, job, &expected, &outcome);
+                }
+            }
+        }
+    }
+
+    fn count(&mut self, family: &'static str, number: usize) {
+        self.jobs += 1;
+        if let Some(known) = self.families.iter_mut().find(|known| known.0 == family) {
+            known.1[number] += 1;
+        } else {
+            let mut counts = [0; NUMBERS];
+            counts[number] = 1;
+            self.families.push((family, counts));
+        }
+    }
+
+    pub fn print_families(&self) {
+        let mut all = [0; NUMBERS];
+        println!("jobs by family: in all; answered 0, 1, .. 6");
+        for (name, counts) in &self.families {
+            print_counts(name, counts);
+            for (sum, count) in all.iter_mut().zip(counts) {
+                *sum += count;
+            }
+        }
+        print_counts("all", &all);
+    }
+
+    pub fn print_end(&self) {
+        println!("{} jobs, {} differences", self.jobs, self.differing);
+    }
+}
+
+fn print_counts(name: &str, counts: &[u64; NUMBERS]) {
+    let numbers = counts.map(|count| format!(" {count:>9}")).concat();
+    println!("  {name:30} {:>10} {numbers}", counts.iter().sum::<u64>());
+}
+
+fn show(name: &str, job: &Job, expected: &Outcome, outcome: &Outcome) {
+    println!("{name} differs: {job:?}");
+    println!("  job  {}", any_job_row(job));
+    println!("  000  {expected:?}");
+    println!("  here {outcome:?}");
+}
+
+/// Holds the proved code against 000 on the grid and on random jobs.
+#[cfg(feature = "proved")]
+pub fn bulk(seed: u64, jobs: u64) -> bool {
+    let mut tally = Tally::default();
+    each_plain_job(seed, jobs, |family, job| {
+        tally.hold(family, job, &[PROVED]);
+    });
+    tally.print_families();
+    tally.print_end();
+    tally.differing == 0
+}
+
+/// Runs the jobs of standard input and prints what 000 answers.
+pub fn rows() -> bool {
+    let mut tally = Tally::default();
+    for row in stdin().lines() {
+        let row = row.expect("standard input can be read");
+        let Some(job) = read_job(&row) else {
+            println!("no job: {row}");
+            tally.differing += 1;
+            continue;
+        };
+        println!("{}", outcome_row(&job.run(oracle::job)));
+        tally.hold("rows", &job, SIDES);
+    }
+    tally.print_end();
+    tally.differing == 0
+}
