@@ -1,4 +1,5 @@
-//! Packs a job from text for `rawoffset`: `rustc -O examples/pack.rs -o target/pack`, then
+//! Packs a job from text for `rawoffset`:
+//! `rustc --edition 2021 -O examples/pack.rs -o target/pack`, then
 //! `target/pack <examples/corner.txt >corner.job`.
 //!
 //! A line of the text is `open` or `closed`, `offset NUMBER`, `eps NUMBER`, or a vertex: x, y and,
