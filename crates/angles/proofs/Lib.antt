@@ -1,4 +1,5 @@
 pub mod Tables
 pub mod Walk
 pub mod Turned
+pub mod Steps
 pub mod Samples

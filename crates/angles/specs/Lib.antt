@@ -1,2 +1,3 @@
 pub mod Tables
 pub mod Angle
+pub mod Steps

@@ -1,11 +1,13 @@
 // atan and tan by tables, the angle of a point seen from a centre, and a bulge's sweep and back.
 ghost use mathlib.Core.Path.{_≡_};
 ghost use Prim.Native.Nat.{_<_};
-ghost use lib.Ieee.{eq};
+ghost use lib.Ieee.{lt, le, eq};
 ghost use lib.ListN.{length};
-ghost use Rattle.floats.specs.Binary64.{zero};
+ghost use Rattle.floats.specs.Binary64.{zero, one};
 ghost use Rattle.floats.specs.Choice.{_and_};
-ghost use Rattle.angles.specs.Angle.{hornerStep, horner, halve, atanSmall, quarterTurn, atanOf, tanStep, tanOf, wideAngle, directionOf, angleOf, sweepOf, bulgeOf, normalizedAngle};
+ghost use Rattle.floats.specs.Size.{absOf};
+ghost use Rattle.angles.specs.Angle.{hornerStep, horner, halve, quarterTurn, atanOf, tanStep, tanOf, angleOf, sweepOf, bulgeOf, normalizedAngle};
+ghost use Rattle.angles.specs.Steps.{series, reduced, restored, pair, slope, wideBy, directionBy};
 
 // Each literal is the nearest double.
 const PI: f64 = 3.141592653589793;
@@ -78,11 +80,11 @@ fn halve(x: f64) -> f64
     x / (1.0 + floats::sqrt(1.0 + x * x))
 }
 
-// Three halvings bring |x| ≤ 1 below 0.1, where nine terms suffice.
-fn atan_small(x: f64) -> f64
-    ensures { λ r. ⌜ r ≡ atanSmall x ⌝ }
+// The angle whose tangent is halved three times to h. Halvings bring |x| ≤ 1 below 0.1, where nine
+// terms suffice.
+fn series(h: f64) -> f64
+    ensures { λ r. ⌜ r ≡ series h ⌝ }
 {
-    let h = halve(halve(halve(x)));
     8.0 * (h * horner_walk(&ATAN, h * h))
 }
 
@@ -96,13 +98,59 @@ fn quarter_turn(x: f64) -> f64
     HALF_PI
 }
 
+fn is_steep(x: f64) -> bool
+    ensures { λ r. ⌜ r ≡ lt one (absOf x) ⌝ }
+{
+    floats::abs(x) > 1.0
+}
+
+// What is halved for atan(x).
+fn reduced(x: f64) -> f64
+    ensures { λ r. ⌜ r ≡ reduced x ⌝ }
+{
+    if is_steep(x) {
+        return 1.0 / x;
+    }
+    x
+}
+
+// atan(x) from that of what is halved.
+fn restored(x: f64, a: f64) -> f64
+    ensures { λ r. ⌜ r ≡ restored x a ⌝ }
+{
+    if is_steep(x) {
+        return quarter_turn(x) - a;
+    }
+    a
+}
+
 pub fn atan(x: f64) -> f64
     ensures { λ r. ⌜ r ≡ atanOf x ⌝ }
 {
-    if floats::abs(x) > 1.0 {
-        return quarter_turn(x) - atan_small(1.0 / x);
+    restored(x, series(halve(halve(halve(reduced(x))))))
+}
+
+// Two angles that were worked out side by side.
+pub struct Pair {
+    pub first: f64,
+    pub second: f64,
+}
+
+// Two arc tangents by turns: neither waits for the other's roots, and that takes little longer than
+// one of them.
+fn atan_both(x: f64, y: f64) -> Pair
+    ensures { λ r. ⌜ r ≡ pair (atanOf x) (atanOf y) ⌝ }
+{
+    let x1 = halve(reduced(x));
+    let y1 = halve(reduced(y));
+    let x2 = halve(x1);
+    let y2 = halve(y1);
+    let x3 = halve(x2);
+    let y3 = halve(y2);
+    Pair {
+        first: restored(x, series(x3)),
+        second: restored(y, series(y3)),
     }
-    atan_small(x)
 }
 
 // The tangent of twice the angle whose tangent is t.
@@ -121,11 +169,32 @@ pub fn tan(x: f64) -> f64
     tan_step(tan_step(tan_step(s / c)))
 }
 
-// The angle of (x, y) where |x| ≥ |y|.
-fn wide_angle(x: f64, y: f64) -> f64
-    ensures { λ r. ⌜ r ≡ wideAngle x y ⌝ }
+fn both_zero(x: f64, y: f64) -> bool
+    ensures { λ r. ⌜ r ≡ (eq x zero and eq y zero) ⌝ }
 {
-    let a = atan(y / x);
+    x == 0.0 && y == 0.0
+}
+
+fn is_wide(x: f64, y: f64) -> bool
+    ensures { λ r. ⌜ r ≡ le (absOf y) (absOf x) ⌝ }
+{
+    floats::abs(x) >= floats::abs(y)
+}
+
+// The tangent by which the angle of (x, y) is found.
+fn slope(x: f64, y: f64) -> f64
+    ensures { λ r. ⌜ r ≡ slope x y ⌝ }
+{
+    if is_wide(x, y) {
+        return y / x;
+    }
+    x / y
+}
+
+// The angle of (x, y) where |x| ≥ |y|, from a = atan(y/x).
+fn wide_angle(x: f64, y: f64, a: f64) -> f64
+    ensures { λ r. ⌜ r ≡ wideBy x y a ⌝ }
+{
     if x < 0.0 {
         if y >= 0.0 {
             return a + PI;
@@ -135,23 +204,17 @@ fn wide_angle(x: f64, y: f64) -> f64
     a
 }
 
-fn both_zero(x: f64, y: f64) -> bool
-    ensures { λ r. ⌜ r ≡ (eq x zero and eq y zero) ⌝ }
-{
-    x == 0.0 && y == 0.0
-}
-
-// The angle of (x, y).
-fn direction(x: f64, y: f64) -> f64
-    ensures { λ r. ⌜ r ≡ directionOf x y ⌝ }
+// The angle of (x, y) from the arc tangent of its slope.
+fn direction(x: f64, y: f64, a: f64) -> f64
+    ensures { λ r. ⌜ r ≡ directionBy x y a ⌝ }
 {
     if both_zero(x, y) {
         return 0.0;
     }
-    if floats::abs(x) >= floats::abs(y) {
-        return wide_angle(x, y);
+    if is_wide(x, y) {
+        return wide_angle(x, y, a);
     }
-    quarter_turn(y) - atan(x / y)
+    quarter_turn(y) - a
 }
 
 // The angle at which point is seen from center.
@@ -159,7 +222,36 @@ pub fn angle(center: vectors::Vector2, point: vectors::Vector2) -> f64
     ensures { λ r. ⌜ r ≡ angleOf center point ⌝ }
 {
     let v = point.sub(center);
-    direction(v.x, v.y)
+    direction(v.x, v.y, atan(slope(v.x, v.y)))
+}
+
+// The angles at which point is seen from two centers.
+pub fn angles_from(
+    center: vectors::Vector2,
+    other: vectors::Vector2,
+    point: vectors::Vector2,
+) -> Pair
+    ensures { λ r. ⌜ r ≡ pair (angleOf center point) (angleOf other point) ⌝ }
+{
+    let v = point.sub(center);
+    let w = point.sub(other);
+    let atans = atan_both(slope(v.x, v.y), slope(w.x, w.y));
+    Pair {
+        first: direction(v.x, v.y, atans.first),
+        second: direction(w.x, w.y, atans.second),
+    }
+}
+
+// The angle at which point is seen from center, and a bulge's sweep.
+pub fn angle_and_sweep(center: vectors::Vector2, point: vectors::Vector2, bulge: f64) -> Pair
+    ensures { λ r. ⌜ r ≡ pair (angleOf center point) (sweepOf bulge) ⌝ }
+{
+    let v = point.sub(center);
+    let atans = atan_both(slope(v.x, v.y), bulge);
+    Pair {
+        first: direction(v.x, v.y, atans.first),
+        second: 4.0 * atans.second,
+    }
 }
 
 pub fn angle_from_bulge(bulge: f64) -> f64

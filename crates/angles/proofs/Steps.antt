@@ -1,0 +1,33 @@
+-- The code's steps make the rules' arc tangent and direction. Assumes nothing.
+use mathlib.Core.Path.{_≡_, refl}
+use mathlib.Core.Bool.{Bool, true, false}
+use lib.Ieee.{Float, lt, le, eq}
+use Rattle.floats.specs.Binary64.{_⊖_, _⊘_, zero, one}
+use Rattle.floats.specs.Choice.{pick, _and_}
+use Rattle.floats.specs.Size.{absOf}
+use Rattle.angles.specs.Angle.{halve, atanSmall, quarterTurn, atanOf, wideAngle, directionOf}
+use Rattle.angles.specs.Steps.{series, reduced, restored, slope, wideBy, directionBy}
+
+atan-by :
+    (steep : Bool) (x : Float) →
+    (let a = atanSmall (pick steep (one ⊘ x) x) in pick steep (quarterTurn x ⊖ a) a) ≡ pick steep (quarterTurn x ⊖ atanSmall (one ⊘ x)) (atanSmall x)
+unfolding pick
+atan-by true x = refl
+atan-by false x = refl
+
+pub atan-steps : (x : Float) → restored x (series (halve (halve (halve (reduced x))))) ≡ atanOf x
+unfolding series reduced restored atanSmall atanOf
+atan-steps x = atan-by (lt one (absOf x)) x
+
+direction-by :
+    (none wide : Bool) (x y : Float) →
+    (let a = atanOf (pick wide (y ⊘ x) (x ⊘ y)) in pick none zero (pick wide (wideBy x y a) (quarterTurn y ⊖ a)))
+    ≡ pick none zero (pick wide (wideAngle x y) (quarterTurn y ⊖ atanOf (x ⊘ y)))
+unfolding pick wideBy wideAngle
+direction-by true wide x y = refl
+direction-by false true x y = refl
+direction-by false false x y = refl
+
+pub direction-steps : (x y : Float) → directionBy x y (atanOf (slope x y)) ≡ directionOf x y
+unfolding slope directionBy directionOf
+direction-steps x y = direction-by (eq x zero and eq y zero) (le (absOf y) (absOf x)) x y
