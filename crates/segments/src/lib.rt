@@ -193,15 +193,14 @@ fn offset_arc(c: ArcSupport, r: f64, bulge: f64, a: Vector2, b: Vector2) -> RawO
     let center = c.center;
     let start = moved_radially(c, r, a);
     let end = moved_radially(c, r, b);
-    let start_angle = angles::angle(center, start);
-    let sweep = angles::angle_from_bulge(bulge);
+    let both = angles::angle_and_sweep(center, start, bulge);
     RawOffsetArc {
         start,
         end,
         center,
         radius: r,
-        start_angle,
-        sweep,
+        start_angle: both.first,
+        sweep: both.second,
     }
 }
 
