@@ -4,9 +4,9 @@ ghost use lib.Ieee.{le};
 ghost use Rattle.floats.specs.Choice.{_or_};
 ghost use Rattle.segments.specs.declared.RawOffsetSeg.the-variants.{Line, Arc};
 ghost use Rattle.joins.specs.declared.JoinClass.the-variants.{InvalidInnerGap, InvalidDegenerateGap};
-ghost use Rattle.joins.specs.Boundary.{straight, trimmed, isGap};
+ghost use Rattle.joins.specs.Boundary.{connected, straight, trimmed, isGap};
 ghost use Rattle.joins.specs.Connector.{clampCos, clampSin, bulgeSize, connectorBulge};
-ghost use Rattle.joins.specs.Join.{tangentCause, causeOf, rounded, trimmedBy, innerJoin, joinOf};
+ghost use Rattle.joins.specs.Join.{tangentCause, causeOf, trimmedBy, innerJoin, joinOf};
 ghost use Rattle.joins.specs.Steps.{turnCause, settledBy};
 use meetings::Met;
 use segments::RawOffsetArc;
@@ -49,9 +49,14 @@ pub enum Settled {
 }
 
 impl JoinBoundary {
-    // Both spans whole, and a straight connector.
-    pub fn straight(class: JoinClass, current_end: Vector2, next_start: Vector2) -> JoinBoundary
-        ensures { λ r. ⌜ r ≡ straight class «current_end» «next_start» ⌝ }
+    // Both spans whole, and a connector of the given bulge.
+    pub fn connected(
+        class: JoinClass,
+        current_end: Vector2,
+        next_start: Vector2,
+        connector_bulge: f64,
+    ) -> JoinBoundary
+        ensures { λ r. ⌜ r ≡ connected class «current_end» «next_start» «connector_bulge» ⌝ }
     {
         JoinBoundary {
             class,
@@ -59,8 +64,15 @@ impl JoinBoundary {
             current_param: 1.0,
             next_start,
             next_param: 0.0,
-            connector_bulge: 0.0,
+            connector_bulge,
         }
+    }
+
+    // Both spans whole, and a straight connector.
+    pub fn straight(class: JoinClass, current_end: Vector2, next_start: Vector2) -> JoinBoundary
+        ensures { λ r. ⌜ r ≡ straight class «current_end» «next_start» ⌝ }
+    {
+        JoinBoundary::connected(class, current_end, next_start, 0.0)
     }
 
     // Both spans cut at one point.
@@ -74,26 +86,6 @@ impl JoinBoundary {
             next_start: point,
             next_param,
             connector_bulge: 0.0,
-        }
-    }
-
-    // Both spans whole, and an arc about the shared source vertex.
-    pub fn round(
-        class: JoinClass,
-        current_end: Vector2,
-        next_start: Vector2,
-        shared_source_vertex: Vector2,
-        offset: f64,
-    ) -> JoinBoundary
-        ensures { λ r. ⌜ r ≡ rounded class «current_end» «next_start» «shared_source_vertex» offset ⌝ }
-    {
-        JoinBoundary {
-            class,
-            current_end,
-            current_param: 1.0,
-            next_start,
-            next_param: 0.0,
-            connector_bulge: connector_bulge(offset, current_end, next_start, shared_source_vertex),
         }
     }
 
@@ -144,7 +136,9 @@ fn bulge_size(cos: f64, sin: f64) -> f64
     (1.0 - cos) / (sin + floats::sqrt(2.0 * (1.0 - cos)))
 }
 
-fn connector_bulge(
+// Of an arc about the shared source vertex. It is called for two classes, and so stays a call that
+// hands back one number.
+pub fn connector_bulge(
     offset: f64,
     current_end: Vector2,
     next_start: Vector2,
@@ -241,19 +235,17 @@ pub fn join_without_intersection(
         )),
         JoinCause::ZeroTangent => Settled::Boundary(degenerate_gap(end, start)),
         JoinCause::SameDirection => Settled::Boundary(degenerate_gap(end, start)),
-        JoinCause::Reversal => Settled::Boundary(JoinBoundary::round(
+        JoinCause::Reversal => Settled::Boundary(JoinBoundary::connected(
             JoinClass::ReversalRound,
             end,
             start,
-            shared_source_vertex,
-            offset,
+            connector_bulge(offset, end, start, shared_source_vertex),
         )),
-        JoinCause::Outer => Settled::Boundary(JoinBoundary::round(
+        JoinCause::Outer => Settled::Boundary(JoinBoundary::connected(
             JoinClass::OuterRound,
             end,
             start,
-            shared_source_vertex,
-            offset,
+            connector_bulge(offset, end, start, shared_source_vertex),
         )),
         JoinCause::Inner => Settled::Inner,
     }

@@ -250,15 +250,13 @@ fn arc_arc_meeting(row: &[u8; 192]) {
 }
 
 fn round(row: &[u8; 192]) {
-    let boundary = JoinBoundary::round(
-        JoinClass::OuterRound,
+    print(b"round");
+    print_number(joins::connector_bulge(
+        number(row, 7),
         vector(row, 1),
         vector(row, 3),
         vector(row, 5),
-        number(row, 7),
-    );
-    print(b"round");
-    print_number(boundary.connector_bulge);
+    ));
 }
 
 fn print_cause(cause: JoinCause) {
