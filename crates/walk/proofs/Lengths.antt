@@ -20,18 +20,18 @@ use Rattle.emission.proofs.Walks.{open-fits, closed-fits}
 use Rattle.refusals.specs.Source.{segmentsOf}
 use Rattle.refusals.proofs.Segments.{segments-closed, segments-open}
 use Rattle.walk.specs.Walk.{connectorMoves, walk, openLast, closedLast, closingJoin, walkStart, walkMoves, walkDrawing, drawingOf}
-use Rattle.walk.specs.Steps.{walkerAt}
-use Rattle.walk.proofs.Turning.{turned, turnMoves, length-turns, walk-turns}
+use Rattle.walk.specs.Steps.{walkerAt, turned, openEntry}
+use Rattle.walk.proofs.Turning.{turnMoves, length-turns, walk-turns}
 
 -- two for each segment but the last
 length-walk : (last : ℕ → RawOffsetSeg → Float → List Move) (n : ℕ) → ((i : ℕ) (g : RawOffsetSeg) (t : Float) → length (last i g t) ≡ n)
-    → (offset ε : Float) (a b : PlineVertex) (t : Float) (vs : List PlineVertex) → length (walk last offset ε 0 a b t vs) ≡ 2 * length vs + n
-length-walk last n h offset ε a b t vs =
-    let w = walkerAt 0 a b t offset in
+    → (offset ε : Float) (a b : PlineVertex) (e : JoinBoundary) (vs : List PlineVertex) → length (walk last offset ε 0 a b (e .«next_param») vs) ≡ 2 * length vs + n
+length-walk last n h offset ε a b e vs =
+    let w = walkerAt 0 a b e offset in
     let l = turned offset ε vs w in
-    ap length (walk-turns offset ε last vs 0 a b t)
-    ∙ length-append (turnMoves offset ε vs w) (last (l .source .0) (l .current) (l .«start_param»))
-    ∙ rw (length-turns offset ε vs w, h (l .source .0) (l .current) (l .«start_param»))
+    ap length (walk-turns offset ε last vs 0 a b e)
+    ∙ length-append (turnMoves offset ε vs w) (last (l .source .0) (l .current) (l .entry .«next_param»))
+    ∙ rw (length-turns offset ε vs w, h (l .source .0) (l .current) (l .entry .«next_param»))
 
 one-last : (i : ℕ) (g : RawOffsetSeg) (t : Float) → length (openLast i g t) ≡ 1
 unfolding openLast
@@ -56,13 +56,13 @@ at-most-two false = omega arith
 module _ (offset ε : Float) (a b : PlineVertex) (vs : List PlineVertex) where
   pub open-length : length (walkMoves false offset ε a b vs) ≡ 2 * length vs + 1
   unfolding walkMoves pick
-  open-length = length-walk openLast 1 one-last offset ε a b zero vs
+  open-length = length-walk openLast 1 one-last offset ε a b (openEntry a b offset) vs
 
   pub closed-length : length (walkMoves true offset ε a b vs)
       ≡ 2 * (length vs + 1) + pick (near (closingJoin offset ε a b vs .«current_end») (closingJoin offset ε a b vs .«next_start») ε) 1 2
   closed-length =
       let j = closingJoin offset ε a b vs in
-      all-moves ∙ length-walk (closedLast j ε) _ (two-last j ε) offset ε a b (j .«next_param») (vs ++ a ∷ []) ∙ rw (length-append vs (a ∷ []))
+      all-moves ∙ length-walk (closedLast j ε) _ (two-last j ε) offset ε a b j (vs ++ a ∷ []) ∙ rw (length-append vs (a ∷ []))
     where
       all-moves : length (walkMoves true offset ε a b vs)
           ≡ length (walk (closedLast (closingJoin offset ε a b vs) ε) offset ε 0 a b (closingJoin offset ε a b vs .«next_param») (vs ++ a ∷ []))

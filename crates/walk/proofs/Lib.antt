@@ -1,7 +1,9 @@
 pub mod Turning
+pub mod Stretches
 pub mod Rounds
 pub mod Lengths
 pub mod Sources
+pub mod Leads
 pub mod Whole
 pub mod Connectors
 pub mod Ends

@@ -8,9 +8,7 @@ use lib.ListN.{length, drop, getD, length-drop}
 use lib.Ieee.{Float}
 use Rattle.floats.proofs.Choice.{yes, no}
 use Rattle.segments.specs.declared.PlineVertex.{PlineVertex}
-use Rattle.segments.specs.Vertex.{posOf}
 use Rattle.segments.specs.Segment.{offsetSeg, isCollapsed}
-use Rattle.joins.specs.Join.{joinOf}
 use Rattle.emission.specs.Drawing.{nothing}
 use Rattle.refusals.specs.Source.{verticesOf}
 use Rattle.refusals.specs.Steps.{vertexOf}
@@ -64,9 +62,8 @@ module _ (s : List Float) (v : ℕ) (long : 3 * v ≡ length s) (two : 2 ≤ v) 
       last-at (vertexOf s 1) (drop 2 (verticesOf s)) d
       ∙ (ap (λ (vs : List PlineVertex). getD vs (suc (length (drop 2 (verticesOf s)))) d) (sym first-two) ∙ ap (λ k. getD (verticesOf s) k d) n ∙ getD-vertices s (v - 1) d (omega arith))
 
-  pub closing-is : (offset ε : Float)
-      → joinOf (offsetSeg (vertexOf s (v - 1)) (vertexOf s 0) offset) (offsetSeg (vertexOf s 0) (vertexOf s 1) offset) (posOf (vertexOf s 0)) offset ε ≡ joinOfSource offset ε s
-  unfolding closingJoin joinAt
+  pub closing-is : (offset ε : Float) → joinAt offset ε (vertexOf s (v - 1)) (vertexOf s 0) (vertexOf s 1) ≡ joinOfSource offset ε s
+  unfolding closingJoin
   closing-is offset ε = rw last-is
 
   module _ (offset : Float) where

@@ -1,22 +1,25 @@
 -- The steps of the walk's code: where the walker stands, one turn of it, and the pen and buffers with it, and what they need. No rule rests on these: `proofs/Turning.antt`
 -- ties them to `walk`. A walker carries the current segment along; that it is the segment worked out anew from its vertices is proved there. Definitions only.
 use mathlib.Core.Path.{_≡_}
-use Prim.Native.Nat.{ℕ, _+_, _*_, _≤_, _<_}
+use Prim.Native.Nat.{ℕ, _+_, _*_, _-_, _≤_, _<_}
 use mathlib.Core.Bool.{Bool}
-use mathlib.Core.List.{List, [], _∷_}
-use lib.ListN.{length, drop}
+use mathlib.Core.List.{List, [], _∷_, _++_}
+use lib.ListN.{length, take, drop}
 use lib.Ieee.{Float}
 use Rattle.segments.specs.declared.PlineVertex.{PlineVertex}
 use Rattle.segments.specs.declared.RawOffsetSeg.{RawOffsetSeg}
 use Rattle.segments.specs.Vertex.{posOf}
-use Rattle.segments.specs.Segment.{offsetSeg}
+use Rattle.segments.specs.declared.RawOffsetSeg.the-variants.{Line}
+use Rattle.segments.specs.Segment.{offsetSeg, startOf}
+use Rattle.joins.specs.declared.JoinClass.the-variants.{Coincident}
+use Rattle.joins.specs.Boundary.{straight}
 use Rattle.joins.specs.Join.{joinOf}
 use Rattle.vectors.specs.declared.Vector2.{Vector2}
 use Rattle.joins.specs.declared.JoinBoundary.{JoinBoundary}
 use Rattle.emission.specs.declared.Move.{Move}
 use Rattle.emission.specs.Drawing.{Drawing}
 use Rattle.emission.specs.Buffers.{Buffers}
-use Rattle.emission.specs.Steps.{Sheet, sheet, emitted, emits, Rooms, Within}
+use Rattle.emission.specs.Steps.{Sheet, sheet, penAt, emitted, emits, Rooms, Within}
 use Rattle.refusals.specs.Source.{verticesOf}
 use Rattle.refusals.specs.Steps.{vertexOf}
 use Rattle.walk.specs.declared.Walker.{Walker}
@@ -24,9 +27,22 @@ use Rattle.walk.specs.declared.Turned.{Turned}
 use Rattle.walk.specs.declared.Walked.{Walked}
 use Rattle.walk.specs.Walk.{spanMove, connectorMove, closingJoin, walkStart, walkMoves, walkDrawing}
 
--- at segment i, from a to b, whose span starts at the parameter t
-unfoldable pub walkerAt : ℕ → PlineVertex → PlineVertex → Float → Float → Walker
-walkerAt i a b t offset = record { source = record { 0 = i }; current = offsetSeg a b offset; vertex = b; «start_param» = t }
+-- at segment i, from a to b, whose span starts at the boundary j
+unfoldable pub walkerAt : ℕ → PlineVertex → PlineVertex → JoinBoundary → Float → Walker
+walkerAt i a b j offset = record { source = record { 0 = i }; current = offsetSeg a b offset; vertex = b; entry = j }
+
+-- at a vertex that no segment leads to: a line of no length stands for one
+unfoldable pub standing : PlineVertex → Walker
+standing a = record {
+  source = record { 0 = 0 };
+  current = Line (record { start = posOf a; end = posOf a });
+  vertex = a;
+  entry = straight Coincident (posOf a) (posOf a);
+}
+
+-- at the same segment, which counts as the first and whose span starts at j, and the pen there
+unfoldable pub entering : Walker → JoinBoundary → Walked
+entering w j = record { walker = record { source = record { 0 = 0 }; current = w .current; vertex = w .vertex; entry = j }; pen = penAt (j .«next_start») }
 
 -- on to the segment from the walker's vertex to c: the span and the connector that lead there
 unfoldable pub turnOf : Walker → PlineVertex → Float → Float → Turned
@@ -34,10 +50,15 @@ turnOf w c offset ε =
     let next = offsetSeg (w .vertex) c offset in
     let j = joinOf (w .current) next (posOf (w .vertex)) offset ε in
     record {
-      span = spanMove (w .source .0) (w .current) (w .«start_param») (j .«current_end») (j .«current_param»);
+      span = spanMove (w .source .0) (w .current) (w .entry .«next_param») (j .«current_end») (j .«current_param»);
       connector = connectorMove (w .source .0) j;
-      walker = record { source = record { 0 = w .source .0 + 1 }; current = next; vertex = c; «start_param» = j .«next_param» };
+      walker = record { source = record { 0 = w .source .0 + 1 }; current = next; vertex = c; entry = j };
     }
+
+-- where a turn for each vertex leads
+unfoldable pub turned : Float → Float → List PlineVertex → Walker → Walker
+turned offset ε [] w = w
+turned offset ε (c ∷ vs) w = turned offset ε vs (turnOf w c offset ε .walker)
 
 -- the walker, and the sheet that its moves are drawn on
 pub record Trail : Type 0 where
@@ -60,7 +81,7 @@ advances offset ε (c ∷ vs) r = advances offset ε vs (advanced offset ε c r)
 
 -- the moves of the last segment, drawn from where the walker stands
 unfoldable pub ends : (ℕ → RawOffsetSeg → Float → List Move) → Float → Trail → Sheet
-ends last ε r = emits ε (last (r .walker .source .0) (r .walker .current) (r .walker .«start_param»)) (r .sheet)
+ends last ε r = emits ε (last (r .walker .source .0) (r .walker .current) (r .walker .entry .«next_param»)) (r .sheet)
 
 -- there is room for t turns more
 pub record Turns (t : ℕ) (w : Walked) (b : Buffers) : Type 0 where
@@ -73,6 +94,21 @@ pub record Ready (v room : ℕ) (s : List Float) (b : Buffers) : Type 0 where
   pub two : 2 ≤ v
   pub most : v ≤ 4096
   pub within : Within room 0 0 0 b
+
+-- the walker at the first segment, from a to b, and the pen where its span starts
+unfoldable pub firstAt : PlineVertex → PlineVertex → JoinBoundary → Float → Walked
+firstAt a b j offset = record { walker = walkerAt 0 a b j offset; pen = penAt (j .«next_start») }
+
+-- an open walk has no join there
+abbrev pub openEntry : PlineVertex → PlineVertex → Float → JoinBoundary
+openEntry a b offset = straight Coincident (startOf (offsetSeg a b offset)) (startOf (offsetSeg a b offset))
+
+-- the vertices at the places from i on and before k, and those of the turns of a closed walk
+unfoldable pub stretch : ℕ → ℕ → List Float → List PlineVertex
+stretch i k s = take (k - i) (drop i (verticesOf s))
+
+abbrev pub aroundSource : List Float → List PlineVertex
+aroundSource s = drop 2 (verticesOf s) ++ vertexOf s 0 ∷ []
 
 -- the walk of a source that is lent: its first two vertices, and the others
 abbrev pub joinOfSource : Float → Float → List Float → JoinBoundary

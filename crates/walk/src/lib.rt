@@ -3,30 +3,32 @@
 ghost use mathlib.Core.Path.{_≡_};
 ghost use mathlib.Core.Bool.{true, false};
 ghost use Prim.Native.Nat.{_+_, _*_, _-_, _≤_, _<_};
-ghost use lib.ListN.{length, drop};
+ghost use lib.ListN.{length};
 ghost use Rattle.emission.specs.Buffers.{buffers, shown, resultOf};
 ghost use Rattle.emission.specs.Steps.{Rooms, sheet, emitted, emits, penAt, finished};
 ghost use Rattle.refusals.specs.Source.{verticesOf, segmentsOf};
 ghost use Rattle.refusals.specs.Steps.{vertexOf};
 ghost use Rattle.walk.specs.Walk.{spanMove, connectorMove, closedLast, loneCollapsed, drawingOf};
-ghost use Rattle.walk.specs.Steps.{walkerAt, turnOf, trail, advanced, advances, ends, Turns, Ready, joinOfSource, startOfSource, movesOfSource, walkOfSource};
+ghost use Rattle.walk.specs.Steps.{standing, entering, turnOf, turned, trail, advanced, advances, ends, stretch, aroundSource, firstAt, openEntry, Turns, Ready, joinOfSource, startOfSource, movesOfSource, walkOfSource};
 use emission::Move;
 use emission::Origin;
 use emission::Pen;
 use emission::RawOffsetResult;
 use joins::JoinBoundary;
+use joins::JoinClass;
 use segments::PlineVertex;
+use segments::RawOffsetLine;
 use segments::RawOffsetSeg;
 use segments::SourceSegment;
 use vectors::Vector2;
 
-// Where the walk stands: at segment `source`, which runs to `vertex` and whose span starts at
-// `start_param`. The offset segment is carried along, so that each is worked out once.
+// Where the walk stands: at segment `source`, which runs to `vertex` and whose span starts at the
+// boundary `entry`. The offset segment is carried along, so that each is worked out once.
 pub struct Walker {
     pub source: SourceSegment,
     pub current: RawOffsetSeg,
     pub vertex: PlineVertex,
-    pub start_param: f64,
+    pub entry: JoinBoundary,
 }
 
 // One turn: the span and the connector that it draws, and where the walk stands then.
@@ -51,28 +53,51 @@ fn connector_move(source: SourceSegment, boundary: JoinBoundary) -> Move
 }
 
 impl Walker {
-    // At the first segment, from a to b.
-    fn start(a: PlineVertex, b: PlineVertex, start_param: f64, offset: f64) -> Walker
-        ensures { λ r. ⌜ r ≡ walkerAt 0 a b «start_param» offset ⌝ }
+    // At a vertex that no segment leads to: a line of no length stands for one.
+    fn standing(vertex: PlineVertex) -> Walker
+        ensures { λ r. ⌜ r ≡ standing vertex ⌝ }
     {
         let source = SourceSegment(0);
-        let current = segments::create_untrimmed_raw_offset_seg(a, b, offset);
+        let point = vertex.pos();
+        let current = RawOffsetSeg::Line(RawOffsetLine {
+            start: point,
+            end: point,
+        });
+        let entry = JoinBoundary::straight(JoinClass::Coincident, point, point);
         Walker {
             source,
             current,
-            vertex: b,
-            start_param,
+            vertex,
+            entry,
         }
+    }
+
+    // At the segment that it has come to, as the first one, with the pen where the span starts.
+    fn entering(self, entry: JoinBoundary) -> Walked
+        ensures { λ r. ⌜ r ≡ entering self entry ⌝ }
+    {
+        let source = SourceSegment(0);
+        let current = self.current;
+        let vertex = self.vertex;
+        let walker = Walker {
+            source,
+            current,
+            vertex,
+            entry,
+        };
+        let pen = Pen::add_first(entry.next_start);
+        Walked { walker, pen }
     }
 
     // The span of the current segment, up to a point at a parameter.
     fn source_span(self, end: Vector2, end_param: f64) -> Move
-        ensures { λ r. ⌜ r ≡ spanMove (self .source .0) (self .current) (self .«start_param») end «end_param» ⌝ }
+        ensures { λ r. ⌜ r ≡ spanMove (self .source .0) (self .current) (self .entry .«next_param») end «end_param» ⌝ }
     {
         let segment = self.current;
         let source = self.source;
-        let bulge = segment.span_bulge(self.start_param, end_param);
-        let invalid = segment.span_is_invalid(self.start_param, end_param);
+        let entry = self.entry;
+        let bulge = segment.span_bulge(entry.next_param, end_param);
+        let invalid = segment.span_is_invalid(entry.next_param, end_param);
         let origin = Origin::Span(source);
         Move {
             end,
@@ -99,7 +124,7 @@ impl Walker {
             source: after,
             current: segment,
             vertex: next,
-            start_param: boundary.next_param,
+            entry: boundary,
         };
         Turned {
             span,
@@ -163,10 +188,13 @@ fn emit_vertex(
     Walked { walker: after, pen }
 }
 
-// The turns to all vertices past the first two.
+// The turns to the vertices at the places from `from` on and before `stop`. All joins and segments
+// are made by this one loop, those of the lead-in too: code that is called from one place alone is
+// compiled into that place, and its numbers stay in registers.
 fn emit_turns(
     source: &[f64],
-    v: usize,
+    from: usize,
+    stop: usize,
     walked: Walked,
     offset: f64,
     eps: f64,
@@ -174,15 +202,42 @@ fn emit_turns(
     flags: &mut [u8],
     indexes: &mut [u32],
 ) -> Walked
-    requires { ⌜ (3 * v ≡ length (now source)) × (2 ≤ v) ⌝ }
-    requires { ⌜ Turns (v - 2) walked (buffers (now vertices) (now flags) (now indexes)) ⌝ }
-    ensures { λ r. ⌜ trail r (buffers (now (vertices .exit)) (now (flags .exit)) (now (indexes .exit))) ≡ advances offset eps (drop 2 (verticesOf (now (source .entry)))) (trail walked (buffers (now (vertices .entry)) (now (flags .entry)) (now (indexes .entry)))) ⌝ }
+    requires { ⌜ (from ≤ stop) × (3 * stop ≤ length (now source)) ⌝ }
+    requires { ⌜ Turns (stop - from) walked (buffers (now vertices) (now flags) (now indexes)) ⌝ }
+    ensures { λ r. ⌜ trail r (buffers (now (vertices .exit)) (now (flags .exit)) (now (indexes .exit))) ≡ advances offset eps (stretch from stop (now (source .entry))) (trail walked (buffers (now (vertices .entry)) (now (flags .entry)) (now (indexes .entry)))) ⌝ }
 {
     let mut at = walked;
-    for k in 2..v {
+    for k in from..stop {
         at = emit_vertex(source, k, at, offset, eps, vertices, flags, indexes);
     }
     at
+}
+
+// The walker at the first segment, after turns from place `at` to the places from `from` up to the
+// second vertex's. What they draw is thrown away.
+fn lead_in(source: &[f64], at: usize, from: usize, offset: f64, eps: f64) -> Walker
+    requires { ⌜ (from ≤ 2) × (6 ≤ length (now source)) × (3 * at + 3 ≤ length (now source)) ⌝ }
+    ensures { λ r. ⌜ r ≡ turned offset eps (stretch from 2 (now (source .entry))) (standing (vertexOf (now (source .entry)) at)) ⌝ }
+{
+    let mut vertices = [0.0; 12];
+    let mut flags = [0u8; 4];
+    let mut indexes = [0u32; 4];
+    let vertex = refusals::vertex_at(source, at);
+    let walker = Walker::standing(vertex);
+    let pen = Pen::add_first(vertex.pos());
+    let first = Walked { walker, pen };
+    let walked = emit_turns(
+        source,
+        from,
+        2,
+        first,
+        offset,
+        eps,
+        &mut vertices,
+        &mut flags,
+        &mut indexes,
+    );
+    walked.walker
 }
 
 // All moves of an open walk.
@@ -198,17 +253,23 @@ fn emit_open(
     requires { ⌜ Ready v (2 * (v - 1)) (now source) (buffers (now vertices) (now flags) (now indexes)) ⌝ }
     ensures { λ r. ⌜ sheet r (buffers (now (vertices .exit)) (now (flags .exit)) (now (indexes .exit))) ≡ emits eps (movesOfSource false offset eps (now (source .entry))) (sheet (penAt (startOfSource false offset eps (now (source .entry)))) (buffers (now (vertices .entry)) (now (flags .entry)) (now (indexes .entry)))) ⌝ }
 {
-    let a = refusals::vertex_at(source, 0);
-    let b = refusals::vertex_at(source, 1);
-    let walker = Walker::start(a, b, 0.0, offset);
-    let segment = walker.current;
-    let pen = Pen::add_first(segment.start());
-    let first = Walked { walker, pen };
-    let walked = emit_turns(source, v, first, offset, eps, vertices, flags, indexes);
+    let first = first_open(source, offset, eps);
+    let walked = emit_turns(source, 2, v, first, offset, eps, vertices, flags, indexes);
     let last = walked.walker;
     let ending = last.current;
     let span = last.source_span(ending.end(), 1.0);
     emission::emit_segment(vertices, flags, indexes, walked.pen, span, eps)
+}
+
+// An open walk at its first segment, which starts at its own start.
+fn first_open(source: &[f64], offset: f64, eps: f64) -> Walked
+    requires { ⌜ 6 ≤ length (now source) ⌝ }
+    ensures { λ r. ⌜ r ≡ firstAt (vertexOf (now (source .entry)) 0) (vertexOf (now (source .entry)) 1) (openEntry (vertexOf (now (source .entry)) 0) (vertexOf (now (source .entry)) 1) offset) offset ⌝ }
+{
+    let lead = lead_in(source, 0, 1, offset, eps);
+    let segment = lead.current;
+    let start = segment.start();
+    lead.entering(JoinBoundary::straight(JoinClass::Coincident, start, start))
 }
 
 fn build_open(
@@ -229,40 +290,33 @@ fn build_open(
     emission::finish_open(vertices, flags, indexes, pen, room)
 }
 
-// The join that closes the source, of its last segment and its first.
-fn closing_join(source: &[f64], v: usize, offset: f64, eps: f64) -> JoinBoundary
+// A closed walk at its first segment, which starts at the closing join: of the last segment and the
+// first.
+fn first_closed(source: &[f64], v: usize, offset: f64, eps: f64) -> Walked
     requires { ⌜ (3 * v ≡ length (now source)) × (2 ≤ v) ⌝ }
-    ensures { λ r. ⌜ r ≡ joinOfSource offset eps (now (source .entry)) ⌝ }
+    ensures { λ r. ⌜ r ≡ firstAt (vertexOf (now (source .entry)) 0) (vertexOf (now (source .entry)) 1) (joinOfSource offset eps (now (source .entry))) offset ⌝ }
 {
-    let last = refusals::vertex_at(source, v - 1);
-    let a = refusals::vertex_at(source, 0);
-    let b = refusals::vertex_at(source, 1);
-    let current = segments::create_untrimmed_raw_offset_seg(last, a, offset);
-    let next = segments::create_untrimmed_raw_offset_seg(a, b, offset);
-    joins::analyze_join(current, next, a.pos(), offset, eps)
+    let lead = lead_in(source, v - 1, 0, offset, eps);
+    lead.entering(lead.entry)
 }
 
 // All turns of a closed walk, the last of them back to the first vertex.
 fn emit_around(
     source: &[f64],
     v: usize,
-    closing: JoinBoundary,
+    first: Walked,
     offset: f64,
     eps: f64,
     vertices: &mut [f64],
     flags: &mut [u8],
     indexes: &mut [u32],
 ) -> Walked
-    requires { ⌜ Ready v (2 * v) (now source) (buffers (now vertices) (now flags) (now indexes)) ⌝ }
-    ensures { λ r. ⌜ trail r (buffers (now (vertices .exit)) (now (flags .exit)) (now (indexes .exit))) ≡ advanced offset eps (vertexOf (now (source .entry)) 0) (advances offset eps (drop 2 (verticesOf (now (source .entry)))) (trail (record { walker = walkerAt 0 (vertexOf (now (source .entry)) 0) (vertexOf (now (source .entry)) 1) (closing .«next_param») offset; pen = penAt (closing .«next_start») }) (buffers (now (vertices .entry)) (now (flags .entry)) (now (indexes .entry))))) ⌝ }
+    requires { ⌜ (3 * v ≡ length (now source)) × (2 ≤ v) ⌝ }
+    requires { ⌜ Turns (v - 1) first (buffers (now vertices) (now flags) (now indexes)) ⌝ }
+    ensures { λ r. ⌜ trail r (buffers (now (vertices .exit)) (now (flags .exit)) (now (indexes .exit))) ≡ advances offset eps (aroundSource (now (source .entry))) (trail first (buffers (now (vertices .entry)) (now (flags .entry)) (now (indexes .entry)))) ⌝ }
 {
-    let a = refusals::vertex_at(source, 0);
-    let b = refusals::vertex_at(source, 1);
-    let walker = Walker::start(a, b, closing.next_param, offset);
-    let pen = Pen::add_first(closing.next_start);
-    let first = Walked { walker, pen };
-    let walked = emit_turns(source, v, first, offset, eps, vertices, flags, indexes);
-    emit_vertex(source, 0, walked, offset, eps, vertices, flags, indexes)
+    let walked = emit_turns(source, 2, v, first, offset, eps, vertices, flags, indexes);
+    emit_turns(source, 0, 1, walked, offset, eps, vertices, flags, indexes)
 }
 
 // The last moves of a closed walk. Where the closing join needs no connector, the last span closes.
@@ -303,8 +357,9 @@ fn emit_closed(
     requires { ⌜ Ready v (2 * v) (now source) (buffers (now vertices) (now flags) (now indexes)) ⌝ }
     ensures { λ r. ⌜ sheet r (buffers (now (vertices .exit)) (now (flags .exit)) (now (indexes .exit))) ≡ emits eps (movesOfSource true offset eps (now (source .entry))) (sheet (penAt (startOfSource true offset eps (now (source .entry)))) (buffers (now (vertices .entry)) (now (flags .entry)) (now (indexes .entry)))) ⌝ }
 {
-    let closing = closing_join(source, v, offset, eps);
-    let walked = emit_around(source, v, closing, offset, eps, vertices, flags, indexes);
+    let first = first_closed(source, v, offset, eps);
+    let closing = first.walker.entry;
+    let walked = emit_around(source, v, first, offset, eps, vertices, flags, indexes);
     emit_closing(vertices, flags, indexes, walked, closing, eps)
 }
 
@@ -327,7 +382,7 @@ fn build_closed(
 }
 
 // A lone collapsed arc has no offset geometry.
-fn lone_collapsed(source: &[f64], v: usize, closed: bool, offset: f64) -> bool
+fn lone_collapsed(source: &[f64], v: usize, closed: bool, offset: f64, eps: f64) -> bool
     requires { ⌜ (3 * v ≡ length (now source)) × (2 ≤ v) ⌝ }
     ensures { λ r. ⌜ r ≡ loneCollapsed closed offset (verticesOf (now (source .entry))) ⌝ }
 {
@@ -337,9 +392,8 @@ fn lone_collapsed(source: &[f64], v: usize, closed: bool, offset: f64) -> bool
     if 2 < v {
         return false;
     }
-    let a = refusals::vertex_at(source, 0);
-    let b = refusals::vertex_at(source, 1);
-    let segment = segments::create_untrimmed_raw_offset_seg(a, b, offset);
+    let lead = lead_in(source, 0, 1, offset, eps);
+    let segment = lead.current;
     segment.is_collapsed()
 }
 
@@ -360,7 +414,7 @@ pub fn draw(
     requires { ⌜ room ≡ 2 * segmentsOf closed v ⌝ }
     ensures { λ r. ⌜ finished r (buffers (now (vertices .exit)) (now (flags .exit)) (now (indexes .exit))) ≡ finished (resultOf (drawingOf closed offset eps (verticesOf (now (source .entry))))) (shown room (drawingOf closed offset eps (verticesOf (now (source .entry)))) (buffers (now (vertices .entry)) (now (flags .entry)) (now (indexes .entry)))) ⌝ }
 {
-    if lone_collapsed(source, v, closed, offset) {
+    if lone_collapsed(source, v, closed, offset, eps) {
         emission::wipe(vertices, flags, indexes, room, 0, 0, 0);
         return RawOffsetResult::empty();
     }

@@ -2,42 +2,42 @@
 use borrow.Author.Needs.{needs}
 use mathlib.Core.Path.{_∙_}
 use native.Mathlib.Omega.{arith}
-use Rattle.walk.proofs.Rounds.{turns-first}
-use Rattle.walk.proofs.Whole.{open-moves, turns-left}
+use Rattle.walk.proofs.Whole.{first-turns, open-moves, turns-left, turns-others}
 use Rattle.walk.proofs.emit_open.Statement.{statement}
 use Rattle.walk.proofs.emit_open.Tie as tie
 
+first-open-requires : tie.Need-first-open-requires
+first-open-requires c κs =
+    let p = c .before .before .before .before .pre in
+    let n = p .two in
+    omega (arith, p .long)
+
 emit-turns-requires : tie.Need-emit-turns-requires
 emit-turns-requires c κs =
-    let p = c .before .before .before .before .before .before .before .before .before .before .before .before .pre in
+    let p = c .before .before .before .before .before .before .before .before .pre in
     let n = p .two in
-    ((p .long, n), turns-first _ _ _ _ _ _ _ (c .before .before .before .before .before .start .ensures) (c .before .before .before .add-first .ensures) (omega arith) (p .within))
+    ((n, omega (arith, p .long)), first-turns _ _ _ _ _ _ (c .before .before .before .first-open .ensures) (omega arith) (p .within))
 
 emit-segment-requires : tie.Need-emit-segment-requires
 emit-segment-requires c κs =
-    let p = c .before .before .before .before .before .before .before .before .before .before .before .before .before .before .before .before .before .before .before .before .before .before .before .before .before .pre in
+    let p = c .before .before .before .before .before .before .before .before .before .before .before .before .before .before .before .before .before .before .before .before .before .pre in
     let n = p .two in
     let r = c .before .before .before .before .before .before .before .before .before .before .before .before .emit-turns in
-    let t = turns-left _ _ 1 _ _ _ _ _ _ (p .long) n (r .ensures)
-    (record { vertices = r .kept .1 .1 .1 .1 .1 .0; flags = r .kept .1 .1 .1 .1 .1 .1 .0; indexes = r .kept .1 .1 .1 .1 .1 .1 .1 .0 })
-    (c .before .before .before .before .before .before .before .before .before .before .before .before .before .before .before .before .before .before .start .ensures) (c .before .before .before .before .before .before .before .before .before .before .before .before .before .before .before .before .add-first .ensures) (omega arith) (p .within) in
+    let t = turns-left _ _ 1 _ _ (p .long) n (r .ensures) (record { vertices = r .kept .1 .1 .1 .1 .1 .1 .0; flags = r .kept .1 .1 .1 .1 .1 .1 .1 .0; indexes = r .kept .1 .1 .1 .1 .1 .1 .1 .1 .0 })
+    (first-turns _ _ _ _ _ _ (c .before .before .before .before .before .before .before .before .before .before .before .before .before .before .before .before .first-open .ensures) (omega arith) (p .within)) in
     let q = t .rooms in
     record { vertices = omega (arith, q .vertices); flags = omega (arith, q .flags); indexes = omega (arith, q .indexes); small = omega (arith, q .small) }
 
 returns : tie.Need-returns
 returns c =
-    open-moves _ _ _ _ _ _ (c .before .before .before .before .before .before .before .before .before .before .before .before .before .before .before .before .before .before .before .before .before .before .before .before .before .start .ensures ∙ rw (c .before .before .before .before .before .before .before .before .before .before .before .before .before .before .before .before .before .before .before .before .before .before .before .before .before .before .before .vertex-at .ensures, c .before .before .before .before .before .before .before .before .before .before .before .before .before .before .before .before .before .before .before .before .before .before .before .before .before .before .vertex-at2 .ensures)) (c .before .before .before .before .before .before .before .before .before .before .before .before .before .before .before .before .before .before .before .before .before .before .before .add-first .ensures ∙ rw (c .before .before .before .before .before .before .before .before .before .before .before .before .before .before .before .before .before .before .before .before .before .before .before .before .start2 .ensures)) (c .before .before .before .before .before .before .before .before .before .before .before .before .before .before .before .before .before .before .before .emit-turns .ensures)
+    open-moves _ _ _ _ _ _ (c .before .before .before .before .before .before .before .before .before .before .before .before .before .before .before .before .before .before .before .before .before .before .before .first-open .ensures) (turns-others _ _ _ _ (c .before .before .before .before .before .before .before .before .before .before .before .before .before .before .before .before .before .before .before .before .before .before .before .before .before .before .before .before .pre .long) _ (c .before .before .before .before .before .before .before .before .before .before .before .before .before .before .before .before .before .before .before .emit-turns .ensures))
     (c .before .before .before .before .before .before .before .before .before .before .source-span .ensures ∙ rw (c .before .before .before .before .before .before .before .before .before .before .before .end .ensures)) (c .before .before .before .before .before .before .emit-segment .ensures)
 
 pub emit-open-spec : {M : Type 1} → statement M
 emit-open-spec =
     tie.close
     (tie.spec
-    (λ c κs. search needs)
-    (λ c κs. search needs)
-    (λ c κs. tt)
-    (λ c κs. tt)
-    (λ c κs. tt)
+    first-open-requires
     emit-turns-requires
     (λ c κs. tt)
     (λ c κs. tt)
