@@ -189,8 +189,8 @@ fn emit_vertex(
 }
 
 // The turns to the vertices at the places from `from` on and before `stop`. All joins and segments
-// are made by this one loop, those of the lead-in too: code that is called from one place alone is
-// compiled into that place, and its numbers stay in registers.
+// are made by this one loop, those of the lead-in too: what is called from one place alone is
+// compiled into that place, and what it hands back need not go through memory.
 fn emit_turns(
     source: &[f64],
     from: usize,
@@ -214,7 +214,7 @@ fn emit_turns(
 }
 
 // The walker at the first segment, after turns from place `at` to the places from `from` up to the
-// second vertex's. What they draw is thrown away.
+// second vertex's. What they draw, four moves at most, is thrown away.
 fn lead_in(source: &[f64], at: usize, from: usize, offset: f64, eps: f64) -> Walker
     requires { ⌜ (from ≤ 2) × (6 ≤ length (now source)) × (3 * at + 3 ≤ length (now source)) ⌝ }
     ensures { λ r. ⌜ r ≡ turned offset eps (stretch from 2 (now (source .entry))) (standing (vertexOf (now (source .entry)) at)) ⌝ }
@@ -240,6 +240,17 @@ fn lead_in(source: &[f64], at: usize, from: usize, offset: f64, eps: f64) -> Wal
     walked.walker
 }
 
+// An open walk at its first segment, which starts at its own start.
+fn first_open(source: &[f64], offset: f64, eps: f64) -> Walked
+    requires { ⌜ 6 ≤ length (now source) ⌝ }
+    ensures { λ r. ⌜ r ≡ firstAt (vertexOf (now (source .entry)) 0) (vertexOf (now (source .entry)) 1) (openEntry (vertexOf (now (source .entry)) 0) (vertexOf (now (source .entry)) 1) offset) offset ⌝ }
+{
+    let lead = lead_in(source, 0, 1, offset, eps);
+    let segment = lead.current;
+    let start = segment.start();
+    lead.entering(JoinBoundary::straight(JoinClass::Coincident, start, start))
+}
+
 // All moves of an open walk.
 fn emit_open(
     source: &[f64],
@@ -259,17 +270,6 @@ fn emit_open(
     let ending = last.current;
     let span = last.source_span(ending.end(), 1.0);
     emission::emit_segment(vertices, flags, indexes, walked.pen, span, eps)
-}
-
-// An open walk at its first segment, which starts at its own start.
-fn first_open(source: &[f64], offset: f64, eps: f64) -> Walked
-    requires { ⌜ 6 ≤ length (now source) ⌝ }
-    ensures { λ r. ⌜ r ≡ firstAt (vertexOf (now (source .entry)) 0) (vertexOf (now (source .entry)) 1) (openEntry (vertexOf (now (source .entry)) 0) (vertexOf (now (source .entry)) 1) offset) offset ⌝ }
-{
-    let lead = lead_in(source, 0, 1, offset, eps);
-    let segment = lead.current;
-    let start = segment.start();
-    lead.entering(JoinBoundary::straight(JoinClass::Coincident, start, start))
 }
 
 fn build_open(
