@@ -2,6 +2,7 @@
 // is sixteen words of eight bytes, highest byte first: the number of a function, then the bits of
 // its arguments. The stored output comes from 01's arithmetic in Rust (`oracle`, `samples`).
 ghost use Prim.Native.Nat.{_<_};
+use angles::Pair;
 use intersections::CircleCircleIntr;
 use intersections::LineCircleIntr;
 use intersections::LineLineIntr;
@@ -171,6 +172,23 @@ fn intersection_row(function: u64, row: &[u8; 128]) {
     }
 }
 
+fn print_pair(name: &[u8], pair: Pair) {
+    print_named(name, pair.first);
+    print_number(pair.second);
+}
+
+fn pair_row(function: u64, row: &[u8; 128]) {
+    let a = vector(row, 1);
+    let b = vector(row, 3);
+    match function {
+        12 => print_pair(b"angles_from", angles::angles_from(a, b, vector(row, 5))),
+        _ => print_pair(
+            b"angle_and_sweep",
+            angles::angle_and_sweep(a, b, number(row, 5)),
+        ),
+    }
+}
+
 // Answers one row, or says that there is none.
 fn answer() -> bool {
     let mut row = [0u8; 128];
@@ -180,8 +198,10 @@ fn answer() -> bool {
     let function = word(&row, 0);
     if function < 6 {
         angle_row(function, &row);
-    } else {
+    } else if function < 12 {
         intersection_row(function, &row);
+    } else {
+        pair_row(function, &row);
     }
     print(b"\n");
     true

@@ -1,8 +1,8 @@
 //! The functions of 01 section 3 and the offset segments of 000, on inputs that reach each branch.
 
-use crate::rows::{Rows, named, point, words};
+use crate::rows::{Rows, flat, named, point, words};
 use oracle::core::math::{
-    CircleCircleIntr, LineCircleIntr, LineLineIntr, Vector2, angle, angle_from_bulge, atan,
+    CircleCircleIntr, LineCircleIntr, LineLineIntr, angle, angle_from_bulge, atan,
     bulge_from_angle, circle_circle_intr, dist_squared, line_circle_intr, line_line_intr,
     normalize_radians, parametric_from_point, point_from_parametric, tan,
 };
@@ -19,6 +19,9 @@ const TINY: f64 = 5e-324;
 
 /// The tangent of an eighth of π: a quarter circle's bulge.
 const QUARTER: f64 = SQRT_2 - 1.0;
+
+/// Where angles are taken from.
+const CENTERS: [[f64; 2]; 2] = [[0.0, 0.0], [0.1, -7.5]];
 
 /// A vertex, the point after it, and the offset.
 pub const SEGMENTS: [[f64; 6]; 26] = [
@@ -235,13 +238,30 @@ fn angles(rows: &mut Rows) {
         [-0.3, 1e-9],
     ];
     for s in spokes {
-        for center in [[0.0, 0.0], [0.1, -7.5]] {
+        for center in CENTERS {
             let ends = [center[0], center[1], center[0] + s[0], center[1] + s[1]];
             rows.add(
                 "angle",
                 &ends,
                 &bits(angle(point(&center), point(&ends[2..]))),
             );
+        }
+    }
+    pairs(rows, &spokes, &ratios);
+}
+
+/// The end of each spoke seen from both centres, and beside a bulge's sweep. Spokes from the origin
+/// are not added to it, which would lose a −0.
+fn pairs(rows: &mut Rows, spokes: &[[f64; 2]], bulges: &[f64]) {
+    let [origin, other] = CENTERS;
+    for (s, bulge) in spokes.iter().zip(bulges.iter().cycle()) {
+        for (center, end) in [(origin, *s), (other, [other[0] + s[0], other[1] + s[1]])] {
+            let seen = |from: [f64; 2]| angle(point(&from), point(&end));
+            let inputs = [origin, other, end].concat();
+            rows.add("angles_from", &inputs, &words(&CENTERS.map(seen)));
+            let inputs = [center[0], center[1], end[0], end[1], *bulge];
+            let output = words(&[seen(center), angle_from_bulge(*bulge)]);
+            rows.add("angle_and_sweep", &inputs, &output);
         }
     }
 }
@@ -463,8 +483,6 @@ fn segment(v1: PlineVertex, v2: PlineVertex, offset: f64) -> String {
         vertices: vec![v1, v2],
         is_closed: false,
     };
-    let flat =
-        |points: &[Vector2]| -> Vec<f64> { points.iter().flat_map(|p| [p.x, p.y]).collect() };
     match create_untrimmed_raw_offset_segs(&pline, offset)[0] {
         RawOffsetSeg::Line(line) => named("line", &flat(&[line.start, line.end])),
         RawOffsetSeg::Arc(arc) => {

@@ -3,10 +3,12 @@
 //! With no word it prints them: `function inputs -> outputs`, numbers as 64 bits in sixteen
 //! hexadecimal digits, any NaN as 7ff8000000000000. A row that starts with `#` says what the next
 //! rows reach. With the name of a test program and its folder it writes that program's stored
-//! input and output.
+//! output, and its input if it reads one.
 
 #[cfg(with_000)]
 mod edges;
+#[cfg(with_000)]
+mod floats;
 #[cfg(with_000)]
 mod jobs;
 #[cfg(with_000)]
@@ -35,6 +37,7 @@ fn main() -> std::io::Result<()> {
             jobs::print();
             Ok(())
         }
+        [program, folder] if program == "floats_main" => floats::write(folder.as_ref()),
         [program, folder] if program == "jobs_main" => stored::write(folder.as_ref()),
         [program, folder] => programs::write(program, folder.as_ref()),
         _ => {

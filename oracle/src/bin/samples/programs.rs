@@ -31,6 +31,8 @@ const GEOMETRY: Program = Program {
         "line_line_intr",
         "line_circle_intr",
         "circle_circle_intr",
+        "angles_from",
+        "angle_and_sweep",
     ],
     rows: layers::rows,
 };

@@ -65,6 +65,10 @@ pub fn named(name: &str, numbers: &[f64]) -> String {
     format!("{name}{separator}{}", words(numbers))
 }
 
+pub fn flat(points: &[Vector2]) -> Vec<f64> {
+    points.iter().flat_map(|p| [p.x, p.y]).collect()
+}
+
 pub fn point(numbers: &[f64]) -> Vector2 {
     Vector2::new(numbers[0], numbers[1])
 }

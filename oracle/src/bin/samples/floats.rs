@@ -1,0 +1,81 @@
+//! The stored output of the program that works numbers and vectors at the edges of binary64. It
+//! reads no input: the numbers stand in the program.
+
+use crate::rows::{flat, named};
+use oracle::core::math::Vector2;
+use oracle::core::traits::Real;
+use std::path::Path;
+use std::{fs, io};
+
+const EDGES: [f64; 20] = [
+    0.0,
+    -0.0,
+    1.0,
+    -1.0,
+    0.5,
+    2.0,
+    49.0,
+    1.0_f64.next_up(),
+    1e-8,
+    4.0,
+    -4.0,
+    5e-324,
+    f64::MIN_POSITIVE.next_down(),
+    f64::MIN_POSITIVE,
+    f64::MAX,
+    f64::MIN,
+    f64::INFINITY,
+    f64::NEG_INFINITY,
+    f64::NAN,
+    f64::from_bits(0xfff0_0000_0000_0001),
+];
+
+/// Near the origin in x, in y, in both; as far from it as the tolerance.
+const BESIDE: [[f64; 2]; 4] = [[0.005, 1.0], [1.0, 0.005], [0.005, -0.005], [0.01, 0.0]];
+
+pub fn write(folder: &Path) -> io::Result<()> {
+    let mut lines: Vec<String> = (0..EDGES.len()).flat_map(at_edge).collect();
+    let origin = Vector2::new(0.0, 0.0);
+    lines.extend(BESIDE.map(|[x, y]| vectors(origin, Vector2::new(x, y))));
+    lines.push(vector(Vector2::new(3.0, 4.0)));
+    fs::write(folder.join("stdout"), lines.concat())
+}
+
+/// An edge, the next one and the seventh after it, around the table.
+fn at_edge(i: usize) -> [String; 5] {
+    let [a, b, c] = [0, 1, 7].map(|after| EDGES[(i + after) % EDGES.len()]);
+    [
+        one(a),
+        two(a, b),
+        two(a, a),
+        vector(Vector2::new(a, c)),
+        vectors(Vector2::new(a, b), Vector2::new(c, a)),
+    ]
+}
+
+fn one(x: f64) -> String {
+    line("one", &[x, x.sqrt(), x.abs()], &[x.is_finite()])
+}
+
+fn two(a: f64, b: f64) -> String {
+    let near = [1e-8, f64::INFINITY, f64::NAN].map(|eps| a.fuzzy_eq_eps(b, eps));
+    line("two", &[a, b], &near)
+}
+
+fn vector(v: Vector2) -> String {
+    let mut numbers = flat(&[v, -v, v.perp()]);
+    numbers.extend([v.length_squared(), v.length()]);
+    numbers.extend(flat(&[v.normalize(), v.unit_perp()]));
+    line("vector", &numbers, &[])
+}
+
+fn vectors(a: Vector2, b: Vector2) -> String {
+    let mut numbers = flat(&[a, b, a + b, a - b, a.scale(b.x)]);
+    numbers.extend([a.dot(b), a.perp_dot(b)]);
+    line("vectors", &numbers, &[a.fuzzy_eq_eps(b, 0.01)])
+}
+
+fn line(name: &str, numbers: &[f64], truths: &[bool]) -> String {
+    let truths: String = truths.iter().map(|truth| format!(" {truth}")).collect();
+    named(name, numbers) + &truths + "\n"
+}
