@@ -1,6 +1,6 @@
 -- 01's wording of atan past 1: ±π/2 − atan(1/x). `atanOf` says at once what that atan is, since |1/x| is at most 1. Assumes nothing.
 use mathlib.Core.Path.{_≡_, refl, sym}
-use mathlib.Core.Bool.{Bool, true, false}
+use mathlib.Core.Bool.{true, false}
 use Prim.Native.Nat.{ℕ, zero, suc, _*_, _<_}
 use native.Mathlib.Omega.{arith}
 use borrow.Author.Tests.{ltb-true, ne-eqb}
@@ -10,13 +10,9 @@ use lib.Ieee.Order.{round-mono}
 use Rattle.floats.specs.Binary64.{_⊖_, _⊘_, one}
 use Rattle.floats.specs.Size.{absOf}
 use Rattle.floats.proofs.Choice.{yes, no}
-use Rattle.floats.proofs.Order.{lt→nle}
+use Rattle.floats.proofs.Order.{fails, lt→nle}
 use Rattle.floats.proofs.Signs.{abs-round}
 use Rattle.angles.specs.Angle.{quarterTurn, atanSmall, atanOf}
-
-fails : (t : Bool) → (T t → ⊥) → t ≡ false
-fails true h = absurd (h tt)
-fails false h = refl
 
 -- the reciprocal of what is above 1 is not above it
 reciprocal : (x : Float) → lt one (absOf x) ≡ true → lt one (absOf (one ⊘ x)) ≡ false

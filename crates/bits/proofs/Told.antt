@@ -8,13 +8,9 @@ use lib.Ieee.{Float, nan, inf, fin, binary64, ofBits, nanBits, isNan, ne, div}
 use lib.Ieee.Bits.{nanBits-is, nanBits-above}
 use lib.Ieee.Compare.{differs-from-itself}
 
-holds : (b : Bool) → b ≡ true → T b
-holds true h = tt
-holds false h = absurd (false≢true h)
-
 -- differs from itself: a NaN
 pub is-nan : (x : Float) → ne x x ≡ true → x ≡ nan
-is-nan x h = differs-from-itself x (holds (ne x x) h)
+is-nan x h = differs-from-itself x (subst T (sym h) tt)
 
 -- does not: no NaN
 pub no-nan : (x : Float) → ne x x ≡ false → T (not (isNan x))

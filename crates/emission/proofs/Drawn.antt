@@ -21,6 +21,7 @@ use Rattle.emission.specs.Choice.{Apart, Rising}
 use Rattle.emission.specs.Choice.Apart.{none, one, more}
 use Rattle.emission.specs.Choice.Rising.{none as rnone, next}
 use Rattle.emission.specs.Sound.{invalidAt, invalids, segmentCount, Sound}
+use Rattle.emission.proofs.Laws.{bit-small}
 use Rattle.emission.proofs.Kept.{lastPoint-snoc}
 use Rattle.emission.proofs.Lists.{length-corners, length-flagsOf}
 use Rattle.emission.proofs.Near.{near-symmetric, near-self, near-finite}
@@ -128,11 +129,7 @@ flags-at (k ∷ ks) (suc i) = flags-at ks i
 flag-bits : (ks : List Move) (i : ℕ) → getD (flagsOf ks) i 0 ≤ 1
 unfolding flagsOf
 flag-bits [] i = omega arith
-flag-bits (k ∷ ks) zero = by (k .invalid)
-  where
-    by : (b : Bool) → bit b ≤ 1
-    by true = omega arith
-    by false = omega arith
+flag-bits (k ∷ ks) zero = bit-small (k .invalid)
 flag-bits (k ∷ ks) (suc i) = flag-bits ks i
 
 -- ---- the drawings
@@ -200,10 +197,7 @@ module _ (e : Float) (p : Vector2) (ms : List Move) (c : Move) (ends : c .end �
       many =
           let l = ap length with-closing ∙ length-append (kept e p ms) (c ∷ []) in
           let o = closed-never-one in
-          at-least (length ks) (omega arith) o
-        where
-          at-least : (n : ℕ) → 0 < n → (n ≡ 1 → ⊥) → 2 ≤ n
-          at-least n a b = omega arith
+          omega arith
 
       round : p ∷ map endOf ks ≡ map posOf (corners p ks) ++ p ∷ []
       round =

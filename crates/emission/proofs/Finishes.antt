@@ -24,7 +24,7 @@ use Rattle.emission.proofs.Over.{cleared-after, cleared-whole, cleared-
 use Rattle.emission.proofs.Lists.{length-corners, length-flat, length-flagsOf, length-marks}
 use Rattle.emission.proofs.SheetOf.{put-over}
 
-buffers-eq : {v v′ : List Float} {f f′ i i′ : List ℕ} → v ≡ v′ → f ≡ f′ → i ≡ i′ → buffers v f i ≡ buffers v′ f′ i′
+pub buffers-eq : {v v′ : List Float} {f f′ i i′ : List ℕ} → v ≡ v′ → f ≡ f′ → i ≡ i′ → buffers v f i ≡ buffers v′ f′ i′
 buffers-eq a b c = cc
 
 -- ---- buffers that hold the lists of a drawing
@@ -118,7 +118,7 @@ closed-some p (k ∷ []) h = absurd (omega arith)
 closed-some p (k ∷ l ∷ ks) h = refl
 
 -- a drawing fits its room
-nothing-fits : (room : ℕ) → Fits room nothing
+pub nothing-fits : (room : ℕ) → Fits room nothing
 nothing-fits room = record { vertices = omega arith; flags = omega arith; indexes = omega arith }
 
 pub fits-open : (room : ℕ) (p : Vector2) (ks : List Move) → length ks + 1 ≤ room → Fits room (drawnOpen p ks)

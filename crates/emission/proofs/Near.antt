@@ -1,8 +1,8 @@
 -- Nearness of points: the same both ways; a point that is not near itself is near nothing; and a finite point is near itself at an e above zero. Assumes nothing.
 use mathlib.Core.Path.{_≡_, refl, sym, ap, _∙_}
-use mathlib.Core.Logic.{_⊎_, inl, inr, ⊎-elim}
+use mathlib.Core.Logic.{inl, inr, ⊎-elim}
 use mathlib.Core.Bool.{Bool, true, false, not, Bool·beq, false≢true}
-use Prim.Native.Nat.{ℕ, zero, suc, _-_, _*_, _≤_, _<_}
+use Prim.Native.Nat.{ℕ, _-_, _*_, _<_}
 use native.Mathlib.Nat.{zero-mul, mul-pos, zero-lt-suc}
 use native.Mathlib.Omega.{arith}
 use borrow.Author.Tests.{ltb-false, le-ltb}
@@ -13,6 +13,7 @@ use lib.Ieee.Scale.{round-same}
 use Rattle.floats.specs.Binary64.{_⊖_, zero as plus-zero}
 use Rattle.floats.specs.Choice.{_and_}
 use Rattle.floats.specs.Size.{absOf, within, finite}
+use Rattle.floats.proofs.Choice.{either-fails}
 use Rattle.floats.proofs.Signs.{abs-round, within-swap}
 use Rattle.vectors.specs.Plane.{near}
 use Rattle.vectors.specs.declared.Vector2.{Vector2}
@@ -48,10 +49,6 @@ inf-not nan = refl
 inf-not (inf t) = refl
 inf-not (fin t n d) = refl
 
-zero-factor : (x d : ℕ) → 0 < d → x * d ≤ 0 → x ≡ 0
-zero-factor zero d k h = refl
-zero-factor (suc x) d k h = absurd (let p = mul-pos (zero-lt-suc x) k in omega arith)
-
 not-below : (e x : Float) → lt none e ≡ false → lt (absOf x) e ≡ false
 unfolding lt absOf
 not-below e nan h = refl
@@ -61,7 +58,7 @@ not-below (inf t) (fin s m k) h = h
 not-below (fin true n d) (fin s m k) h = refl
 not-below (fin false n d) (fin s m k) h =
     let l = ltb-false (0 * up (pos 0) * down d) (n * up d * down (pos 0)) h in
-    let z : n * up d ≡ 0 = zero-factor (n * up d) (down (pos 0)) (down-pos (pos 0)) (omega arith) in
+    let z : n * up d ≡ 0 = omega arith in
     let w : n * up d * down k ≡ 0 = rw (z, zero-mul) in
     le-ltb (m * up k * down d) (n * up d * down k) (omega arith)
 
@@ -99,30 +96,16 @@ within-finite (fin s m d) e h k = ap (λ x. lt x e) (abs-self s m d) ∙ k
 
 -- ---- points
 
-and-false : (a b : Bool) → (a and b) ≡ false → (a ≡ false) ⊎ (b ≡ false)
-unfolding _and_
-and-false true b h = inr h
-and-false false b h = inl refl
-
-and-none : (a : Bool) → (a and false) ≡ false
-unfolding _and_
-and-none true = refl
-and-none false = refl
-
 pub near-symmetric : (a b : Vector2) (e : Float) → near a b e ≡ near b a e
 unfolding near
 near-symmetric a b e = rw (within-swap (a .x) (b .x) e, within-swap (a .y) (b .y) e)
 
 -- a point that is not near itself is near nothing
 pub near-self : (p q : Vector2) (e : Float) → near p p e ≡ false → near p q e ≡ false
-unfolding near _and_
-near-self p q e h = ⊎-elim in-x in-y (and-false (within (p .x) (p .x) e) (within (p .y) (p .y) e) h)
-  where
-    in-x : within (p .x) (p .x) e ≡ false → (within (p .x) (q .x) e and within (p .y) (q .y) e) ≡ false
-    in-x k = rw (within-self (p .x) (q .x) e k)
-
-    in-y : within (p .y) (p .y) e ≡ false → (within (p .x) (q .x) e and within (p .y) (q .y) e) ≡ false
-    in-y k = rw (within-self (p .y) (q .y) e k) (and-none (within (p .x) (q .x) e))
+unfolding near
+near-self p q e h =
+    either-fails _ _ .1
+    (⊎-elim (λ k. inl (within-self (p .x) (q .x) e k)) (λ k. inr (within-self (p .y) (q .y) e k)) (either-fails (within (p .x) (p .x) e) (within (p .y) (p .y) e) .0 h))
 
 -- a finite point is near itself, where e is above zero
 pub near-finite : (p : Vector2) (e : Float) → finite (p .x) ≡ true → finite (p .y) ≡ true → lt plus-zero e ≡ true → near p p e ≡ true

@@ -9,14 +9,11 @@ use lib.Ieee.{Float}
 use Rattle.vectors.specs.Plane.{near}
 use Rattle.emission.specs.declared.Move.{Move}
 use Rattle.emission.specs.declared.Pen.{Pen}
-use Rattle.emission.specs.Drawing.{kept, bit}
+use Rattle.emission.specs.Drawing.{kept}
 use Rattle.emission.specs.Buffers.{Buffers}
 use Rattle.emission.specs.Steps.{Sheet, sheet, penAfter, drawn, emitted, emits, Rooms, Alike}
+use Rattle.emission.proofs.Laws.{bit-small}
 use Rattle.emission.proofs.Emitted.{emitted-near, emitted-far}
-
-bit-small : (b : Bool) → bit b ≤ 1
-bit-small true = omega arith
-bit-small false = omega arith
 
 -- n moves add at most n to each of the pen's counts
 pub record Counted (n : ℕ) (s t : Pen) : Type 0 where

@@ -1,11 +1,11 @@
 -- `absOf` by the tests of the code: below zero, zero, and the rest. Assumes nothing.
 use mathlib.Core.Path.{_≡_, refl}
 use mathlib.Core.Bool.{Bool, true, false, _&&_}
-use Prim.Native.Nat.{ℕ, zero, suc, _^_, _<_, _*_}
+use Prim.Native.Nat.{zero, suc, _<_, _*_}
 use native.Mathlib.Nat.{zero-mul, mul-pos, pow-suc}
 use native.Mathlib.Omega.{arith}
 use borrow.Author.Tests.{ltb-true, ltb-false, eqb-true}
-use lib.IntN.{ℤ, pos, negsuc}
+use lib.IntN.{pos, negsuc}
 use lib.Dec.{eqb}
 use lib.Pow.{pow-pos}
 use lib.Ieee.{Float, nan, inf, fin, binary64, neg, lt, eq, fits, ofBits, up, down}

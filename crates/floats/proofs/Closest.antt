@@ -1,8 +1,8 @@
 -- The nearest whole number to a fraction, from two strict bounds; and the fraction that stands for a square root, from bounds on the root. Assumes nothing.
-use mathlib.Core.Path.{_≡_, refl, sym, ap, _∙_, subst}
+use mathlib.Core.Path.{_≡_, refl, sym, subst}
 use mathlib.Core.Logic.{_⊎_, inl, inr}
 use Prim.Native.Nat.{ℕ, suc, _+_, _*_, _/_, _%_, _≤_, _<_, compare, Ordering, Ordering·lt, Ordering·eq, Ordering·gt}
-use native.Mathlib.Nat.{le-refl, le-trans, le-of-lt, le-antisymm, le-of-suc-le-suc, lt-irrefl, suc-mul, add-mul, one-mul, mod-lt, div-add-mod', lt-of-mul-lt-mul-right}
+use native.Mathlib.Nat.{le-refl, le-trans, le-of-lt, le-antisymm, le-of-suc-le-suc, lt-of-lt-of-le, lt-irrefl, suc-mul, mod-lt, div-add-mod', lt-of-mul-lt-mul-right}
 use native.Mathlib.Omega.{arith}
 use mathlib.Core.Bool.{Bool, true, false, not}
 use lib.Dec.{T, isLe, isEq, eqb, leb→le, nleb→lt, eqb→eq, eqb-refl}
@@ -29,13 +29,7 @@ cmp a b = go (compare a b) (leb→le a b) (nleb→lt a b) (eqb→eq a b) (λ (e 
 
 -- ---- products with B, taken apart
 next : (q w B : ℕ) → q * B < w * B + B → q ≤ w
-next q w B h = le-of-suc-le-suc (lt-of-mul-lt-mul-right B (subst (λ (x : ℕ). q * B < x) (sym (add-mul 1 w B ∙ ap (λ (x : ℕ). x + w * B) (one-mul B) ∙ swap B (w * B)) ∙ ap (λ (x : ℕ). x * B) (one-more w)) h))
-  where
-    swap : (a b : ℕ) → a + b ≡ b + a
-    swap a b = omega arith
-
-    one-more : (w : ℕ) → 1 + w ≡ suc w
-    one-more w = omega arith
+next q w B h = le-of-suc-le-suc (lt-of-mul-lt-mul-right B (subst (λ (x : ℕ). q * B < x) (sym (suc-mul w B)) h))
 
 -- with A = w * B + r, each product with B an atom
 at : (o : Ordering) (w q B A r wB qB : ℕ) → Cmp o (r * 2) B → wB + r ≡ A → r < B → 2 * qB < 2 * A + B → 2 * A < 2 * qB + B
@@ -81,6 +75,13 @@ pub twice-below : (n d : ℕ) → n < d * d → twiceRoot n < 2 * d
 twice-below n d h =
     let l : wholeRoot n < d = sq-lt (wholeRoot n) d n (whole-low n) h in
     elim (twice-cases n) [ inl k ↦ omega (arith, k .1) | inr k ↦ omega (arith, k .1) ]
+
+-- at most every 2 * d with d from √n up
+pub twice-at-most : (n d : ℕ) → n ≤ d * d → twiceRoot n ≤ 2 * d
+twice-at-most n d h = elim (twice-cases n) [
+  | inl k ↦ let l : wholeRoot n ≤ d = sq-le (wholeRoot n) d (d * d) (le-trans (whole-low n) h) (omega arith) in omega (arith, k .1)
+  | inr k ↦ let l : wholeRoot n < d = sq-lt (wholeRoot n) d (wholeRoot n * wholeRoot n) (le-refl (wholeRoot n * wholeRoot n)) (lt-of-lt-of-le (lt-of-le-ne (whole-low n) (k .0)) h) in omega (arith, k .1)
+]
 
 -- and at least every 2 * c with c up to √n
 pub twice-reaches : (n c : ℕ) → c * c ≤ n → 2 * c ≤ twiceRoot n

@@ -1,7 +1,7 @@
 -- The arithmetic of `slow_root`: the square root of w * 2 ^ 52, two binary digits a turn. Assumes nothing.
 use mathlib.Core.Path.{_≡_, refl, sym, ap, _∙_}
 use Prim.Native.Nat.{ℕ, zero, suc, _+_, _-_, _*_, _/_, _%_, _^_, _≤_, _<_}
-use native.Mathlib.Nat.{le-trans, le-of-eq, zero-add, mul-one, one-mul, mul-comm, mul-assoc, mul-add, add-mul, mul-le-mul-left, mul-le-mul-right, mul-div-cancel, pow-succ', two-mul}
+use native.Mathlib.Nat.{le-trans, le-of-eq, zero-add, mul-one, mul-comm, mul-assoc, mul-le-mul-left, mul-le-mul-right, mul-div-cancel, pow-succ'}
 use native.Mathlib.Omega.{arith}
 use lib.Arith.{digits-div}
 use lib.Pow.{pow-pos}
@@ -48,13 +48,6 @@ short-root : (r k : ℕ) → Short r k → r + 1 ≤ 2 ^ 53
 unfolding Short
 short-root r k t = le-trans (le-of-eq (sym (mul-one (r + 1)))) (le-trans (mul-le-mul-left (r + 1) (pow-pos k)) t)
 
--- the square of the next root
-sq-odd : (r : ℕ) → (r * 2 + 1) * (r * 2 + 1) ≡ 4 * (r * r) + (r * 4 + 1)
-sq-odd r = ap (λ (x : ℕ). (x + 1) * (x + 1)) (mul-comm r 2) ∙ simp (two-mul, mul-add, add-mul, mul-one, one-mul) (omega arith)
-
-sq-even : (r : ℕ) → r * 2 * (r * 2) ≡ 4 * (r * r)
-sq-even r = ap (λ (x : ℕ). x * x) (mul-comm r 2) ∙ simp (two-mul, mul-add, add-mul) (omega arith)
-
 carry : (x n d s : ℕ) → x ≡ 4 * n + (d * 4 + s / 2 ^ 52) → x * 2 ^ 54 + s % 2 ^ 52 * 4 ≡ 4 * ((n + d) * 2 ^ 54 + s)
 carry x n d s e = omega arith
 
@@ -68,7 +61,7 @@ turn-odd w r d s k h i l =
       rest = omega arith;
       root = short-root (r * 2 + 1) (k - 1) next;
       short = next;
-      taken = next-taken w r d s k (r * 2 + 1) (e - (r * 4 + 1)) (s % 2 ^ 52 * 4) h (carry ((r * 2 + 1) * (r * 2 + 1) + (e - (r * 4 + 1))) (r * r) d s (omega (arith, sq-odd r))) (i .taken);
+      taken = next-taken w r d s k (r * 2 + 1) (e - (r * 4 + 1)) (s % 2 ^ 52 * 4) h (carry ((r * 2 + 1) * (r * 2 + 1) + (e - (r * 4 + 1))) (r * r) d s (omega arith)) (i .taken);
     }
 
 pub turn-even : (w r d s k : ℕ) → 0 < k → Inv w r d s k → d * 4 + s / 2 ^ 52 < r * 4 + 1 → Inv w (r * 2) (d * 4 + s / 2 ^ 52) (s % 2 ^ 52 * 4) (k - 1)
@@ -81,7 +74,7 @@ turn-even w r d s k h i l =
       rest = omega arith;
       root = short-root (r * 2) (k - 1) next;
       short = next;
-      taken = next-taken w r d s k (r * 2) e (s % 2 ^ 52 * 4) h (carry (r * 2 * (r * 2) + e) (r * r) d s (omega (arith, sq-even r))) (i .taken);
+      taken = next-taken w r d s k (r * 2) e (s % 2 ^ 52 * 4) h (carry (r * 2 * (r * 2) + e) (r * r) d s (omega arith)) (i .taken);
     }
 
 -- ---- the end
@@ -98,7 +91,6 @@ all-taken w r d s k z l t =
 pub end-up : (w r d s k : ℕ) → k ≤ 0 → Inv w r d s k → r < d → NearRoot (w * 2 ^ 52) (r + 1)
 end-up w r d s k z i l =
     let e : r * r + d ≡ w * 2 ^ 52 = all-taken w r d s k z (i .coming) (i .taken) in
-    let f : (r + 1) * (r + 1) ≡ r * r + 2 * r + 1 = simp (mul-add, add-mul, mul-one, one-mul) (omega arith) in
     record { low = omega arith; high = omega arith }
 
 pub end-down : (w r d s k : ℕ) → 0 < w → k ≤ 0 → Inv w r d s k → d ≤ r → NearRoot (w * 2 ^ 52) r

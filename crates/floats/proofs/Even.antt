@@ -2,7 +2,7 @@
 use mathlib.Core.Path.{_≡_, refl, sym, ap, _∙_}
 use mathlib.Core.Logic.{_⊎_, inl, inr}
 use Prim.Native.Nat.{ℕ, zero, suc, _+_, _-_, _*_, _/_, _%_, _^_, _≤_, _<_}
-use native.Mathlib.Nat.{zero-mul, one-mul, add-zero, mul-assoc, mul-left-comm, mul-comm, pow-succ'}
+use native.Mathlib.Nat.{mul-assoc, mul-left-comm, mul-comm, mul-le-mul-right, pow-succ'}
 use native.Mathlib.Omega.{arith}
 use lib.Pow.{pow-add}
 use lib.Ieee.{binary64, ofBits}
@@ -14,15 +14,9 @@ abbrev pub evened : ℕ → ℕ → ℕ
 evened m e = m + e % 2 * m
 
 parity : (r m : ℕ) → r < 2 → ((r ≡ 0) × (m + r * m ≡ m)) ⊎ ((r ≡ 1) × (m + r * m ≡ m * 2))
-parity zero m h = inl (refl, ap (λ (x : ℕ). m + x) (zero-mul m) ∙ add-zero m)
-parity (suc zero) m h = inr (refl, ap (λ (x : ℕ). m + x) (one-mul m) ∙ twice m)
-  where
-    twice : (m : ℕ) → m + m ≡ m * 2
-    twice m = omega arith
-parity (suc (suc r)) m h = absurd (no r h)
-  where
-    no : (r : ℕ) → suc (suc r) < 2 → ⊥
-    no r h = omega arith
+parity zero m h = inl (refl, omega arith)
+parity (suc zero) m h = inr (refl, omega arith)
+parity (suc (suc r)) m h = absurd (omega arith)
 
 half-even : (e : ℕ) → e % 2 ≡ 0 → e / 2 + e / 2 ≡ e
 half-even e h = omega arith
@@ -33,9 +27,6 @@ half-odd e h = omega arith
 evened-is : (m e : ℕ) → evened m e * 2 ^ 52 * (2 ^ (e / 2) * 2 ^ (e / 2)) ≡ m * 2 ^ (e + 52)
 evened-is m e = go (parity (e % 2) m (omega arith))
   where
-    j : ℕ
-    j = e / 2
-
     go : ((e % 2 ≡ 0) × (m + e % 2 * m ≡ m)) ⊎ ((e % 2 ≡ 1) × (m + e % 2 * m ≡ m * 2)) → evened m e * 2 ^ 52 * (2 ^ (e / 2) * 2 ^ (e / 2)) ≡ m * 2 ^ (e + 52)
     go (inl p) =
         ap (λ (x : ℕ). x * 2 ^ 52 * (2 ^ (e / 2) * 2 ^ (e / 2))) (p .1)
@@ -56,11 +47,7 @@ pub evened-lo : (m e : ℕ) → m ≤ evened m e
 evened-lo m e = omega arith
 
 pub evened-hi : (m e : ℕ) → evened m e ≤ m * 2
-evened-hi m e = go (parity (e % 2) m (omega arith))
-  where
-    go : ((e % 2 ≡ 0) × (m + e % 2 * m ≡ m)) ⊎ ((e % 2 ≡ 1) × (m + e % 2 * m ≡ m * 2)) → evened m e ≤ m * 2
-    go (inl p) = omega arith
-    go (inr p) = omega arith
+evened-hi m e = let h : e % 2 * m ≤ 1 * m = mul-le-mul-right m (omega arith) in omega arith
 
 room : (w m : ℕ) → w ≤ m * 2 → m < 2 ^ 53 → w * 2 ^ 52 + 2 ^ 53 ≤ 2 ^ 106
 room w m h k = omega arith

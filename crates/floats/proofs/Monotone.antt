@@ -2,18 +2,18 @@
 -- order of its operands. Then x / y ≤ 1 for x ≤ y, and twice a value is exact. Assumes nothing.
 use mathlib.Core.Path.{_≡_, refl, sym, ap, _∙_, subst}
 use Prim.Native.Nat.{ℕ, suc, _+_, _-_, _*_, _^_, _≤_, _<_}
-use native.Mathlib.Nat.{le-trans, le-of-eq, lt-irrefl, not-le-of-lt, mul-one, one-mul, mul-comm, mul-assoc, mul-left-comm, mul-right-comm, mul-pos, add-comm, add-mul, mul-le-mul, mul-le-mul-right, mul-mul-mul-comm, add-le-add}
+use native.Mathlib.Nat.{le-trans, le-of-eq, lt-irrefl, not-le-of-lt, mul-one, one-mul, mul-comm, mul-pos, mul-le-mul, mul-le-mul-right, mul-mul-mul-comm}
 use native.Mathlib.Omega.{arith}
 use mathlib.Core.Bool.{Bool, true, false, not, cond}
 use lib.IntN.{ℤ}
-use lib.Dec.{T, ltb, eqb, ltb→lt, eqb→eq}
+use lib.Dec.{T, not-T, ltb, eqb, ltb→lt, eqb→eq}
 use lib.Ieee.{Float, nan, inf, fin, Format, binary32, binary64, emax, up, down, round, sum, neg, add, sub, mul, div, le, fits, ofBits}
+use lib.Ieee.Bits.{is-false}
 use lib.Ieee.Exact.{HasValue}
-use lib.Ieee.Order.{round-mono}
 use lib.Ieee.Positive.{num, den, den-pos, positive, above}
 use Rattle.floats.specs.Binary64.{one, two}
 use Rattle.floats.proofs.Fit.{scaled-exact}
-use Rattle.floats.proofs.Order.{clear, nonneg, NonNeg, value, Clear, top, finite, nonneg-case, clear-case, nonneg→clear, clear→number, positive→nonneg, num-pos, le→fractions, le-self, infinity-greatest, round-clear, round-at-least, round-at-most}
+use Rattle.floats.proofs.Order.{clear, nonneg, NonNeg, value, Clear, top, finite, nonneg-case, clear-case, nonneg→clear, clear→number, positive→nonneg, num-pos, le→fractions, le-self, infinity-greatest, round-clear, round-at-least, round-at-most, between-rounds}
 
 pub one-fits : (f : Format) → T (fits f one)
 unfolding fits ofBits
@@ -54,16 +54,10 @@ add-clear f x y p q = add-by f (λ (z : Float). T (clear z)) x y p q tt (λ (u :
 
 -- z / r is at most a / p, or at most b / q: it is at most their sum
 sum-left : (z r a p b q : ℕ) → z * p ≤ a * r → z * (p * q) ≤ (a * q + b * p) * r
-sum-left z r a p b q h =
-    let k : z * (p * q) ≤ a * q * r = le-trans (le-of-eq (sym (mul-assoc z p q))) (le-trans (mul-le-mul-right q h) (le-of-eq (mul-right-comm a r q))) in
-    le-trans k (mul-le-mul-right r (more (a * q) (b * p)))
-  where
-    more : (a b : ℕ) → a ≤ a + b
-    more a b = omega arith
+sum-left z r a p b q h = let k : z * p * q ≤ a * r * q = mul-le-mul-right q h in omega arith
 
 sum-right : (z r a p b q : ℕ) → z * q ≤ b * r → z * (p * q) ≤ (a * q + b * p) * r
-sum-right z r a p b q h =
-    le-trans (le-of-eq (ap (λ (k : ℕ). z * k) (mul-comm p q))) (le-trans (sum-left z r b q a p h) (le-of-eq (ap (λ (k : ℕ). k * r) (add-comm (b * p) (a * q)))))
+sum-right z r a p b q h = let k : z * q * p ≤ b * r * p = mul-le-mul-right p h in omega arith
 
 -- a value that fits and is at most one summand is at most the sum
 pub add-above-l : (f : Format) (z x y : Float) → T (nonneg z) → T (fits f z) → T (clear x) → T (clear y) → T (le z x) → T (le z (add f x y))
@@ -85,11 +79,7 @@ add-grows-l f x y p t q = let c = nonneg→clear x p in add-above-l f x x y p t 
 pub add-grows-r : (f : Format) (x y : Float) → T (clear x) → T (nonneg y) → T (fits f y) → T (le y (add f x y))
 add-grows-r f x y p q t = let c = nonneg→clear y q in add-above-r f y x y q t p c (le-self y (clear→number y c))
 
--- ---- monotone: `round` keeps the order of two fractions a / c ≤ b / d
-between-rounds : (f : Format) (x y : Float) (a c b d : ℕ) → x ≡ round f false a c → y ≡ round f false b d → 0 < c → 0 < d → a * d ≤ b * c → T (le x y)
-between-rounds f x y a c b d p q C D h =
-    subst (λ (z : Float). T (le z y)) (sym p) (subst (λ (z : Float). T (le (round f false a c) z)) (sym q) (round-mono f a c b d C D h))
-
+-- it is monotone
 pub add-mono : (f : Format) (x x' y y' : Float) → T (nonneg x) → T (nonneg x') → T (nonneg y) → T (nonneg y') → T (le x x') → T (le y y') → T (le (add f x y) (add f x' y'))
 add-mono f x x' y y' p p' q q' h k =
     between-rounds f (add f x y) (add f x' y') (num x * den y + num y * den x) (den x * den y) (num x' * den y' + num y' * den x') (den x' * den y') (add-is f x y p q) (add-is f x' y' p' q')
@@ -99,9 +89,9 @@ add-mono f x x' y y' p p' q q' h k =
     -- a / p ≤ a' / p' and b / q ≤ b' / q'
     sums : (a p a' p' b q b' q' : ℕ) → a * p' ≤ a' * p → b * q' ≤ b' * q → (a * q + b * p) * (p' * q') ≤ (a' * q' + b' * p') * (p * q)
     sums a p a' p' b q b' q' h k =
-        let l : a * q * (p' * q') ≤ a' * q' * (p * q) = le-trans (le-of-eq (mul-mul-mul-comm a q p' q')) (le-trans (mul-le-mul-right (q * q') h) (le-of-eq (simp (mul-assoc, mul-comm, mul-left-comm)))) in
-        let r : b * p * (p' * q') ≤ b' * p' * (p * q) = le-trans (le-of-eq (simp (mul-assoc, mul-comm, mul-left-comm))) (le-trans (mul-le-mul-right (p * p') k) (le-of-eq (simp (mul-assoc, mul-comm, mul-left-comm)))) in
-        le-trans (le-of-eq (add-mul (a * q) (b * p) (p' * q'))) (le-trans (add-le-add l r) (le-of-eq (sym (add-mul (a' * q') (b' * p') (p * q)))))
+        let l : a * p' * (q * q') ≤ a' * p * (q * q') = mul-le-mul-right (q * q') h in
+        let r : b * q' * (p * p') ≤ b' * q * (p * p') = mul-le-mul-right (p * p') k in
+        omega arith
 
 -- ---- the difference x - y, for y ≤ x
 difference : (f : Format) (a b c : ℕ) → b ≤ a → sum f false a true b c ≡ round f false (a - b) c
@@ -165,22 +155,14 @@ double-exact f x p t h = go (nonneg-case x p) t h
 
 -- ---- the quotient by a value above zero
 not-zero : (n : ℕ) → 0 < n → T (not (eqb n 0))
-not-zero n h = go (eqb n 0) (eqb→eq n 0)
-  where
-    go : (b : Bool) → (T b → n ≡ 0) → T (not b)
-    go true k = lt-irrefl 0 (subst (λ (z : ℕ). 0 < z) (k tt) h)
-    go false k = tt
-
-cond-no : (b : Bool) (x y : Float) → T (not b) → cond b x y ≡ y
-cond-no true x y t = absurd t
-cond-no false x y t = refl
+not-zero n h = not-T (eqb n 0) (λ (t : T (eqb n 0)). lt-irrefl 0 (subst (λ (z : ℕ). 0 < z) (eqb→eq n 0 t) h))
 
 pub div-is : (f : Format) (x y : Float) → T (nonneg x) → T (positive y) → div f x y ≡ round f false (num x * den y) (num y * den x)
 unfolding div
 div-is f x y p q = go (nonneg-case x p) (nonneg-case y (positive→nonneg y q)) q
   where
     go : {x y : Float} → NonNeg x → NonNeg y → T (positive y) → div f x y ≡ round f false (num x * den y) (num y * den x)
-    go (value m e) (value n d) q = cond-no (eqb n 0) (cond (eqb m 0) nan (inf false)) (round f false (m * up e * down d) (n * up d * down e)) (not-zero n (ltb→lt 0 n q))
+    go (value m e) (value n d) q = ap (λ (b : Bool). cond b (cond (eqb m 0) nan (inf false)) (round f false (m * up e * down d) (n * up d * down e))) (is-false (eqb n 0) (not-zero n (ltb→lt 0 n q)))
 
 pub div-clear : (f : Format) (x y : Float) → T (nonneg x) → T (positive y) → T (clear (div f x y))
 div-clear f x y p q = subst (λ (z : Float). T (clear z)) (sym (div-is f x y p q)) (round-clear f (num x * den y) (num y * den x))
@@ -193,7 +175,7 @@ div-mono f x x' y y' p p' q q' h k =
     (quotients (num x) (den x) (num x') (den x') (num y) (den y) (num y') (den y') (le→fractions x x' p p' h) (le→fractions y' y (positive→nonneg y' q') (positive→nonneg y q) k))
   where
     quotients : (a p a' p' b q b' q' : ℕ) → a * p' ≤ a' * p → b' * q ≤ b * q' → a * q * (b' * p') ≤ a' * q' * (b * p)
-    quotients a p a' p' b q b' q' h k = le-trans (le-of-eq (simp (mul-assoc, mul-comm, mul-left-comm))) (le-trans (mul-le-mul h k) (le-of-eq (simp (mul-assoc, mul-comm, mul-left-comm))))
+    quotients a p a' p' b q b' q' h k = let l : a * p' * (b' * q) ≤ a' * p * (b * q') = mul-le-mul h k in omega arith
 
 -- 0 ≤ x / y ≤ 1 for x ≤ y, where y may be the infinity
 pub div-unit : (f : Format) (x y : Float) → T (nonneg x) → T (above y) → T (le x y) → T (clear (div f x y)) × T (le (div f x y) one)

@@ -2,8 +2,8 @@
 -- Assumes nothing.
 use mathlib.Core.Path.{_≡_, refl, sym, ap, _∙_, subst}
 use mathlib.Core.Logic.{_⊎_, inl, inr}
-use Prim.Native.Nat.{ℕ, zero, suc, _+_, _-_, _*_, _/_, _%_, _^_, _≤_, _<_, compare, Ordering, Ordering·lt, Ordering·eq, Ordering·gt, zero-le}
-use native.Mathlib.Nat.{le-trans, le-of-eq, le-of-lt, lt-of-lt-of-le, lt-of-le-of-lt, lt-irrefl, eq-or-lt-of-le, mul-one, mul-assoc, mul-left-comm, mul-right-comm, mul-mul-mul-comm, mul-pos, mul-le-mul-left, mul-le-mul-right, mul-lt-mul-of-pos-right, le-of-mul-le-mul-right, lt-of-mul-lt-mul-right, le-div-iff-mul-le, div-mul-le-self, mul-div-cancel, div-add-mod', mod-lt, add-mul, suc-mul, pow-succ', lt-of-not-le, not-le-of-lt, le-of-suc-le-suc}
+use Prim.Native.Nat.{ℕ, zero, suc, _+_, _-_, _*_, _/_, _%_, _^_, _≤_, _<_, compare, Ordering, Ordering·lt, Ordering·eq, Ordering·gt}
+use native.Mathlib.Nat.{le-trans, le-of-eq, le-of-lt, lt-of-lt-of-le, lt-of-le-of-lt, lt-irrefl, eq-or-lt-of-le, eq-zero-or-pos, sub-add-cancel, mul-assoc, mul-mul-mul-comm, mul-pos, mul-le-mul-right, le-of-mul-le-mul-right, lt-of-mul-lt-mul-right, le-div-iff-mul-le, div-mul-le-self, mul-div-cancel, div-add-mod', mod-lt, suc-mul, lt-of-not-le, not-le-of-lt, le-of-suc-le-suc}
 use native.Mathlib.Omega.{arith}
 use native.Mathlib.Decide.{decLe}
 use mathlib.Core.Bool.{false}
@@ -19,8 +19,10 @@ use lib.Ieee.Positive.{num, den, den-pos, positive, positive-finite, value→cro
 use Rattle.floats.specs.Root.{sqrtOf, twiceRoot}
 use Rattle.floats.proofs.Closest.{Cmp, cmp, twice-above, twice-below, twice-reaches}
 use Rattle.floats.proofs.Whole.{sq-mono}
-use Rattle.floats.proofs.Result.{size-gt, spread, spread-one, odd-square, odd-times}
-use Rattle.floats.proofs.Laws.{area, sqrt-is, OnGrid, on-grid, area-low, sqrt-positive}
+use Rattle.floats.proofs.Result.{size-gt}
+use Rattle.floats.proofs.Residue.{product-lt}
+use Rattle.floats.proofs.Fit.{odd-part}
+use Rattle.floats.proofs.Laws.{area, sqrt-is, OnGrid, on-grid, area-is, area-low, sqrt-positive}
 
 -- Without real numbers: a value x that fits is `steps x` of the smallest value, 2 ^ -1074, and √y is √(area y) halves of a step, since area y is y * 2 ^ 2150.
 -- The middle of r and z is `steps r + steps z` halves. So r is nearer to √y than z where √y lies on r's side of that middle: below it for a z above r, and
@@ -35,8 +37,8 @@ pub record Nearest (y r : Float) : Type 0 where
   pub above : (z : Float) → T (positive z) → T (fits binary64 z) → steps r < steps z → area y < middle r z * middle r z
   pub below : (z : Float) → T (positive z) → T (fits binary64 z) → steps z < steps r → middle r z * middle r z < area y
 
-steps-is : (x : Float) (g : OnGrid x) → steps x ≡ g .m * 2 ^ g .j
-steps-is x g = ap (λ (z : ℕ). z / den x) (g .is) ∙ mul-div-cancel (g .m * 2 ^ g .j) (den-pos x)
+steps-is : (x : Float) (a : ℕ) → num x * 2 ^ 1074 ≡ a * den x → steps x ≡ a
+steps-is x a e = ap (λ (z : ℕ). z / den x) e ∙ mul-div-cancel a (den-pos x)
 
 -- ---- the nearest whole number is within a half
 near-at : (o : Ordering) (w B A r wB cB : ℕ) → Cmp o (r * 2) B → wB + r ≡ A → r < B → (nearest w o ≡ w → cB ≡ wB) → (nearest w o ≡ suc w → cB ≡ wB + B) → (2 * cB ≤ 2 * A + B) × (2 * A ≤ 2 * cB + B)
@@ -44,20 +46,7 @@ near-at Ordering·lt w B A r wB cB c e l f g = let k : cB ≡ wB = f refl in (om
 near-at Ordering·eq w B A r wB cB c e l f g = go (parity w)
   where
     parity : (w : ℕ) → (w + w % 2 ≡ w) ⊎ (w + w % 2 ≡ suc w)
-    parity w = split (w % 2) (lt-two w)
-      where
-        lt-two : (w : ℕ) → w % 2 < 2
-        lt-two w = omega arith
-
-        split : (x : ℕ) → x < 2 → (w + x ≡ w) ⊎ (w + x ≡ suc w)
-        split zero h = inl (plain w)
-          where
-            plain : (w : ℕ) → w + 0 ≡ w
-            plain w = omega arith
-        split (suc x) h = inr (one w x h)
-          where
-            one : (w x : ℕ) → suc x < 2 → w + suc x ≡ suc w
-            one w x h = omega arith
+    parity w = elim (eq-zero-or-pos (w % 2)) [ inl z ↦ inl (omega arith) | inr p ↦ inr (omega arith) ]
 
     go : (w + w % 2 ≡ w) ⊎ (w + w % 2 ≡ suc w) → (2 * cB ≤ 2 * A + B) × (2 * A ≤ 2 * cB + B)
     go (inl p) = let k : cB ≡ wB = f p in (omega arith, omega arith)
@@ -80,20 +69,10 @@ keeps a = closest (a * 2 ^ 1074) (2 ^ 1076 * 2 ^ drops a)
 
 -- with L for 2 ^ 1074, and c for the product of q and h = 2 ^ i
 lean : (a q h L : ℕ) → 0 < L → 2 * (q * (4 * L * h)) ≤ 2 * (a * L) + 4 * L * h → 4 * (q * h) ≤ a + 2 * h
-lean a q h L p k =
-    le-of-mul-le-mul-right (scale (a * L) (h * L) (q * h * L) (4 * (q * h) * L) ((a + 2 * h) * L) (mul-assoc 4 (q * h) L) (add-mul a (2 * h) L ∙ ap (λ (z : ℕ). a * L + z) (mul-assoc 2 h L))
-    (subst (λ (z : ℕ). 2 * z ≤ 2 * (a * L) + 4 * (h * L)) (spread q h L) (subst (λ (z : ℕ). 2 * (q * (4 * L * h)) ≤ 2 * (a * L) + z) (spread-one h L) k))) p
-  where
-    scale : (aL hL qhL l r : ℕ) → l ≡ 4 * qhL → r ≡ aL + 2 * hL → 2 * (4 * qhL) ≤ 2 * aL + 4 * hL → l ≤ r
-    scale aL hL qhL l r e f k = omega arith
+lean a q h L p k = let x : 4 * (q * h) * L ≤ (a + 2 * h) * L = omega arith in le-of-mul-le-mul-right x p
 
 reach : (a q h L : ℕ) → 0 < L → 2 * (a * L) ≤ 2 * (q * (4 * L * h)) + 4 * L * h → a ≤ 4 * (q * h) + 2 * h
-reach a q h L p k =
-    le-of-mul-le-mul-right (scale (a * L) (h * L) (q * h * L) ((4 * (q * h) + 2 * h) * L) (add-mul (4 * (q * h)) (2 * h) L ∙ ap (λ (z : ℕ). z + 2 * h * L) (mul-assoc 4 (q * h) L) ∙ ap (λ (z : ℕ). 4 * (q * h * L) + z) (mul-assoc 2 h L))
-    (subst (λ (z : ℕ). 2 * (a * L) ≤ 2 * z + 4 * (h * L)) (spread q h L) (subst (λ (z : ℕ). 2 * (a * L) ≤ 2 * (q * (4 * L * h)) + z) (spread-one h L) k))) p
-  where
-    scale : (aL hL qhL r : ℕ) → r ≡ 4 * qhL + 2 * hL → 2 * aL ≤ 2 * (4 * qhL) + 4 * hL → aL ≤ r
-    scale aL hL qhL r f k = omega arith
+reach a q h L p k = let x : a * L ≤ (4 * (q * h) + 2 * h) * L = omega arith in le-of-mul-le-mul-right x p
 
 -- what is known of the root of n: G steps, a multiple of 2 ^ i, of 53 digits, and within half of 2 ^ i
 record Rounded (n G : ℕ) : Type 0 where
@@ -115,7 +94,7 @@ first-of a i e =
     (pow-pos 1074)
   where
     regroup : (x y L : ℕ) → 4 * (x * y) * L ≡ x * y * (4 * L)
-    regroup x y L = simp (mul-assoc, mul-left-comm)
+    regroup x y L = omega arith
 
 rounded : (x : Float) → T (positive x) → T (fits binary64 x) → Rounded (area x) (steps (sqrtOf x))
 rounded x p f =
@@ -127,8 +106,7 @@ rounded x p f =
     let q = keeps a in
     let R-pos : T (positive R) = subst (λ (z : Float). T (positive z)) (sqrt-is x p) (sqrt-positive x p f) in
     let v : HasValue R false (q * 2 ^ i) (2 ^ 1074) = round-val binary64 a (2 ^ 1076) (round-under binary64 a (2 ^ 1076) (positive-finite R R-pos)) in
-    let G-is : steps (sqrtOf x) ≡ q * 2 ^ i =
-    ap steps (sqrt-is x p) ∙ ap (λ (z : ℕ). z / den R) (value→cross R (q * 2 ^ i) (2 ^ 1074) v) ∙ mul-div-cancel (q * 2 ^ i) (den-pos R) in
+    let G-is : steps (sqrtOf x) ≡ q * 2 ^ i = ap steps (sqrt-is x p) ∙ steps-is R (q * 2 ^ i) (value→cross R (q * 2 ^ i) (2 ^ 1074) v) in
     let big : 52 < size (A / 2 ^ 1076) = size-gt (A / 2 ^ 1076) 52 (le-div-iff-mul-le (pow-pos 1076) .1 (enough a (twice-reaches n (2 ^ 538) (area-low x (on-grid x p f))))) in
     let sz : suc (52 + i) ≡ size (A / 2 ^ 1076) = cut (size (A / 2 ^ 1076)) big in
     let fd : 4 * (2 ^ 52 * 2 ^ i) ≤ a = first-of a i sz in
@@ -163,24 +141,15 @@ rounded x p f =
 -- ---- from 2 ^ 52 * 2 ^ i steps on, every value is a multiple of 2 ^ i steps
 multiple : (z : Float) (g : OnGrid z) (i : ℕ) → 2 ^ 52 * 2 ^ i ≤ steps z → (t : ℕ) × (steps z ≡ t * 2 ^ i)
 multiple z g i h =
-    let e = steps-is z g in
+    let e = steps-is z (g .m * 2 ^ g .j) (g .is) in
     let l : i ≤ g .j = le-of-suc-le-suc (lt-of-not-le (λ (k : suc (g .j) ≤ i). clash k (subst (λ (x : ℕ). 2 ^ 52 * 2 ^ i ≤ x) e h))) in
-    (g .m * 2 ^ (g .j - i), e ∙ ap (λ (x : ℕ). g .m * 2 ^ x) (sym (back i (g .j) l)) ∙ ap (λ (x : ℕ). g .m * x) (pow-add 2 (g .j - i) i) ∙ sym (mul-assoc (g .m) (2 ^ (g .j - i)) (2 ^ i)))
+    (g .m * 2 ^ (g .j - i), e ∙ ap (λ (x : ℕ). g .m * 2 ^ x) (sym (sub-add-cancel l)) ∙ ap (λ (x : ℕ). g .m * x) (pow-add 2 (g .j - i) i) ∙ sym (mul-assoc (g .m) (2 ^ (g .j - i)) (2 ^ i)))
   where
-    back : (i j : ℕ) → i ≤ j → j - i + i ≡ j
-    back i j h = omega arith
-
     up : (i j : ℕ) → suc j ≤ i → 53 + j ≤ 52 + i
     up i j h = omega arith
 
     clash : suc (g .j) ≤ i → 2 ^ 52 * 2 ^ i ≤ g .m * 2 ^ g .j → ⊥
-    clash k b = lt-irrefl (2 ^ (53 + g .j)) (le-trans (lt-suc (2 ^ (53 + g .j)) (2 ^ (52 + i)) (pow-mono (up i (g .j) k))) (le-trans (suc-le (2 ^ (52 + i)) (g .m * 2 ^ g .j) (subst (λ (x : ℕ). x ≤ g .m * 2 ^ g .j) (sym (pow-add 2 52 i)) b)) (shl-lt 53 (g .j) (g .small))))
-      where
-        lt-suc : (a b : ℕ) → a ≤ b → suc a ≤ suc b
-        lt-suc a b h = omega arith
-
-        suc-le : (a b : ℕ) → a ≤ b → suc a ≤ suc b
-        suc-le a b h = omega arith
+    clash k b = not-le-of-lt (shl-lt 53 (g .j) (g .small)) (le-trans (pow-mono (up i (g .j) k)) (le-trans (le-of-eq (pow-add 2 52 i)) b))
 
 -- two multiples of h that differ, differ by h
 apart : (s t h : ℕ) → s * h < t * h → s * h + h ≤ t * h
@@ -194,53 +163,28 @@ at-least : (n c : ℕ) → 2 * c ≤ twiceRoot n → c * c ≤ n
 at-least n c h = le-of-suc-le-suc (lt-of-not-le (λ (k : suc n ≤ c * c). not-le-of-lt (twice-below n c k) h))
 
 -- ---- no tie: the middle of two neighbours has 54 digits, the last of them odd, and so its square more than 53
--- an odd number with zeros after it is no multiple of a smaller number with zeros after it
-odd-part : (a b s t : ℕ) → a % 2 ≡ 1 → a * 2 ^ s ≡ b * 2 ^ t → a ≤ b
-odd-part a b s zero o e = le-trans (le-of-eq (sym (mul-one a))) (le-trans (mul-le-mul-left a (pow-pos s)) (le-of-eq (e ∙ mul-one b)))
-odd-part a b zero (suc t) o e = absurd (even a (b * 2 ^ t) o (sym (mul-one a) ∙ e ∙ ap (λ (x : ℕ). b * x) (pow-succ' 2 t) ∙ mul-left-comm b 2 (2 ^ t)))
-  where
-    even : (a x : ℕ) → a % 2 ≡ 1 → a ≡ 2 * x → ⊥
-    even a x o e = omega arith
-odd-part a b (suc s) (suc t) o e = odd-part a b s t o (halve (a * 2 ^ s) (b * 2 ^ t) (twofold a s ∙ e ∙ sym (twofold b t)))
-  where
-    twofold : (c k : ℕ) → 2 * (c * 2 ^ k) ≡ c * 2 ^ suc k
-    twofold c k = mul-left-comm 2 c (2 ^ k) ∙ ap (λ (x : ℕ). c * x) (sym (pow-succ' 2 k))
-
-    halve : (x y : ℕ) → 2 * x ≡ 2 * y → x ≡ y
-    halve x y e = omega arith
-
-area-is : (y : Float) (g : OnGrid y) → area y ≡ g .m * 2 ^ (g .j + 1076)
-area-is y g =
-    ap (λ (z : ℕ). z / den y) (sym (mul-assoc (num y) (2 ^ 1074) (2 ^ 1076)) ∙ ap (λ (z : ℕ). z * 2 ^ 1076) (g .is) ∙ mul-right-comm (g .m * 2 ^ g .j) (den y) (2 ^ 1076))
-    ∙ mul-div-cancel (g .m * 2 ^ g .j * 2 ^ 1076) (den-pos y)
-    ∙ mul-assoc (g .m) (2 ^ g .j) (2 ^ 1076)
-    ∙ ap (λ (z : ℕ). g .m * z) (sym (pow-add 2 (g .j) 1076))
+area-digits : (y : Float) (g : OnGrid y) → area y ≡ g .m * 2 ^ (g .j + 1076)
+area-digits y g = area-is y (g .m * 2 ^ g .j) (g .is) ∙ mul-assoc (g .m) (2 ^ g .j) (2 ^ 1076) ∙ ap (λ (z : ℕ). g .m * z) (sym (pow-add 2 (g .j) 1076))
 
 no-tie : (y : Float) → OnGrid y → (p i : ℕ) → 2 ^ 52 ≤ suc p → (2 * p + 1) * 2 ^ i * ((2 * p + 1) * 2 ^ i) ≡ area y → ⊥
 no-tie y g p i l e =
     let c = 2 * p + 1 in
-    let o : c * c % 2 ≡ 1 = odd (c * c) (p * p) p (odd-square p) in
-    let h : c * c * 2 ^ (i + i) ≡ g .m * 2 ^ (g .j + 1076) = ap (λ (z : ℕ). c * c * z) (pow-add 2 i i) ∙ sym (mul-mul-mul-comm c (2 ^ i) c (2 ^ i)) ∙ e ∙ area-is y g in
+    let o : c * c % 2 ≡ 1 = odd p in
+    let h : c * c * 2 ^ (i + i) ≡ g .m * 2 ^ (g .j + 1076) = ap (λ (z : ℕ). c * c * z) (pow-add 2 i i) ∙ sym (mul-mul-mul-comm c (2 ^ i) c (2 ^ i)) ∙ e ∙ area-digits y g in
     lt-irrefl (2 ^ 53) (lt-of-le-of-lt (le-trans (lit≤ tt) (sq-mono (2 ^ 53 - 1) c (far p l))) (lt-of-le-of-lt (odd-part (c * c) (g .m) (i + i) (g .j + 1076) o h) (g .small)))
   where
-    odd : (s x p : ℕ) → s ≡ 4 * x + 4 * p + 1 → s % 2 ≡ 1
-    odd s x p e = omega arith
+    odd : (p : ℕ) → (2 * p + 1) * (2 * p + 1) % 2 ≡ 1
+    odd p = omega arith
 
     far : (p : ℕ) → 2 ^ 52 ≤ suc p → 2 ^ 53 - 1 ≤ 2 * p + 1
     far p l = omega arith
 
 -- the middle below q * 2 ^ i and the one above it
 half-below : (p h : ℕ) → 2 * (suc p * h) ≡ (2 * p + 1) * h + h
-half-below p h = ap (λ (z : ℕ). 2 * z) (suc-mul p h) ∙ sums (p * h) h ((2 * p + 1) * h) (odd-times p h)
-  where
-    sums : (x h c : ℕ) → c ≡ 2 * x + h → 2 * (x + h) ≡ c + h
-    sums x h c e = omega arith
+half-below p h = omega arith
 
 half-above : (q h : ℕ) → 2 * (q * h) + h ≡ (2 * q + 1) * h
-half-above q h = sym (odd-times q h)
-
-sq-strict : (a b : ℕ) → a < b → a * a < b * b
-sq-strict a b h = lt-of-le-of-lt (mul-le-mul-left a (le-of-lt h)) (mul-lt-mul-of-pos-right h (lt-of-le-of-lt zero-le h))
+half-above q h = omega arith
 
 -- ---- a value above the root
 nearer-above : (y z : Float) → T (positive y) → T (fits binary64 y) → T (positive z) → T (fits binary64 z) → steps (sqrtOf y) < steps z → area y < middle (sqrtOf y) z * middle (sqrtOf y) z
@@ -302,7 +246,7 @@ nearer-below y z p f q k h = go (decLe F Z)
 
     -- below the power of two that the root is
     under-first : Z < F → F ≡ G → (G + Z) * (G + Z) < area y
-    under-first l e = lt-of-lt-of-le (sq-strict (G + Z) (2 * F) (less F G Z l e)) (at-least (area y) (2 * F) (le-trans (le-of-eq (four F)) (r .first)))
+    under-first l e = lt-of-lt-of-le (product-lt (less F G Z l e) (less F G Z l e)) (at-least (area y) (2 * F) (le-trans (le-of-eq (four F)) (r .first)))
       where
         less : (F G Z : ℕ) → Z < F → F ≡ G → G + Z < 2 * F
         less F G Z l e = omega arith

@@ -2,19 +2,21 @@
 use mathlib.Core.Path.{_≡_, refl, sym, ap, _∙_, subst}
 use mathlib.Core.Logic.{_⊎_, inl, inr}
 use Prim.Native.Nat.{ℕ, zero, suc, _+_, _-_, _*_, _/_, _%_, _^_, _≤_, _<_}
-use native.Mathlib.Nat.{lt-of-lt-of-le, lt-of-le-of-lt, lt-of-not-le, lt-irrefl, eq-zero-or-pos, zero-mul, mul-one, mul-assoc, mul-right-comm, mul-pos, mul-le-mul-right, mul-div-cancel, mod-eq-of-lt, zero-lt-suc}
+use native.Mathlib.Nat.{lt-of-lt-of-le, lt-of-le-of-lt, lt-of-not-le, lt-irrefl, eq-zero-or-pos, zero-mul, mul-one, mul-assoc, mul-pos, mul-le-mul-right, mod-eq-of-lt, zero-lt-suc}
 use native.Mathlib.Omega.{arith}
 use mathlib.Core.Bool.{Bool, true, false, not, _||_, Bool·beq, cond, true≢false, false≢true}
 use lib.IntN.{ℤ}
-use lib.Dec.{T, leb, ltb, eqb, nleb→lt, lt→ltb, eqb→eq}
+use lib.Dec.{T, not-T, leb, ltb, eqb, nleb→lt, lt→ltb, eqb→eq}
 use lib.Arith.{lt→nleb, le→nltb}
 use lib.Pow.{pow-add, pow-pos, pow-mono, shl-lt}
 use lib.Count.{leadingZeros, leading-top}
-use lib.Ieee.{Float, nan, inf, fin, binary64, up, down, odd, fits, isNan, ofFields, ofBits, nanBits, toBits, lt, eq, div, level}
-use lib.Ieee.Fits.{down-pos, up-pos, and-l}
+use lib.Ieee.{Float, nan, inf, fin, binary64, up, down, odd, round, fits, isNan, ofFields, ofBits, nanBits, toBits, lt, eq, div, level}
+use lib.Ieee.Fits.{up-pos, and-l}
 use lib.Ieee.Bits.{is-true, is-false, ofBits-toBits, toBits-lt, nanBits-above}
 use lib.Ieee.Exact.{HasValue, odd-sign}
-use Rattle.floats.specs.Root.{sqrtOf, rootOf}
+use lib.Ieee.Positive.{positive-of-value, value→cross}
+use Rattle.floats.specs.Root.{sqrtOf, rootOf, twiceRoot}
+use Rattle.floats.proofs.Laws.{sqrt-is, area-is}
 
 -- ---- a pattern that is no NaN's
 pub no-nan : (n : ℕ) → n < 2047 * 2 ^ 52 → T (not (nanBits binary64 n))
@@ -42,19 +44,11 @@ value-low b h =
     (low-at b (b / 2 ^ 52) (b % 2 ^ 52) (omega arith) (omega arith))
 
 -- a normal value
-pick : (c : Bool) (u v : Float) (a : ℕ) → T (not c) → HasValue v false a (2 ^ 1074) → HasValue (cond c u v) false a (2 ^ 1074)
-pick true u v a n h = absurd n
-pick false u v a n h = h
-
 not-top : (x : ℕ) → suc x < 2047 → suc x ≡ 2047 → ⊥
 not-top x h e = omega arith
 
 differs : (x : ℕ) → suc x < 2047 → T (not (eqb (suc x) 2047))
-differs x h = go (eqb (suc x) 2047) (eqb→eq (suc x) 2047)
-  where
-    go : (c : Bool) → (T c → suc x ≡ 2047) → T (not c)
-    go true e = absurd (not-top x h (e tt))
-    go false e = tt
+differs x h = not-T (eqb (suc x) 2047) (λ (t : T (eqb (suc x) 2047)). not-top x h (eqb→eq (suc x) 2047 t))
 
 one-less : (x : ℕ) → x ≡ suc x - 1
 one-less x = omega arith
@@ -63,7 +57,7 @@ mid-at : (x t : ℕ) → 0 < x → x < 2047 → HasValue (ofFields binary64 fals
 unfolding ofFields
 mid-at zero t l h = absurd (lt-irrefl 0 l)
 mid-at (suc x) t l h =
-    pick (eqb (suc x) 2047) (cond (eqb t 0) (inf false) nan) (odd 53 false (2 ^ 52 + t) x 1074) ((2 ^ 52 + t) * 2 ^ (suc x - 1)) (differs x h)
+    subst (λ (c : Bool). HasValue (cond c (cond (eqb t 0) (inf false) nan) (odd 53 false (2 ^ 52 + t) x 1074)) false ((2 ^ 52 + t) * 2 ^ (suc x - 1)) (2 ^ 1074)) (sym (is-false (eqb (suc x) 2047) (differs x h)))
     (subst (λ (y : ℕ). HasValue (odd 53 false (2 ^ 52 + t) x 1074) false ((2 ^ 52 + t) * 2 ^ y) (2 ^ 1074)) (one-less x) (odd-sign 53 false (2 ^ 52 + t) x 1074))
 
 value-mid : (b : ℕ) → 2 ^ 52 ≤ b → b < 2047 * 2 ^ 52 → HasValue (ofBits binary64 b) false ((2 ^ 52 + b % 2 ^ 52) * 2 ^ (b / 2 ^ 52 - 1)) (2 ^ 1074)
@@ -116,16 +110,8 @@ bits-high b lo hi = fields-high (leb (2 ^ 63) b) (b % 2 ^ 63 / 2 ^ 52) (b % 2 ^ 
 
 -- ---- the root by the value
 sqrt-of-value : (x : Float) (a : ℕ) → 0 < a → HasValue x false a (2 ^ 1074) → sqrtOf x ≡ rootOf (a * 2 ^ 1076)
-unfolding sqrtOf
-sqrt-of-value nan a p v = absurd v
-sqrt-of-value (inf s) a p v = absurd v
-sqrt-of-value (fin true m e) a p v = absurd (true≢false (v .0))
-sqrt-of-value (fin false zero e) a p v =
-    absurd (lt-irrefl 0 (subst (λ (z : ℕ). 0 < z) (sym (v .1) ∙ ap (λ (z : ℕ). z * 2 ^ 1074) (zero-mul (up e)) ∙ zero-mul (2 ^ 1074)) (mul-pos p (down-pos e))))
-sqrt-of-value (fin false (suc m) e) a p v =
-    ap rootOf
-    (ap (λ (z : ℕ). z / down e) (sym (mul-assoc (suc m * up e) (2 ^ 1074) (2 ^ 1076)) ∙ ap (λ (z : ℕ). z * 2 ^ 1076) (v .1) ∙ mul-right-comm a (down e) (2 ^ 1076))
-    ∙ mul-div-cancel (a * 2 ^ 1076) (down-pos e))
+unfolding rootOf
+sqrt-of-value x a p v = sqrt-is x (positive-of-value x a (2 ^ 1074) v p) ∙ ap (λ (n : ℕ). round binary64 false (twiceRoot n) (2 ^ 1076)) (area-is x a (value→cross x a (2 ^ 1074) v))
 
 -- ---- the tests of the code, at 0.0 as MIR has it
 abbrev pub origin : Float

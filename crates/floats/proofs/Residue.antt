@@ -1,7 +1,7 @@
 -- The arithmetic of `cubic` and `root`: products that fit, and by how much w * 2 ^ 52 exceeds the square of h * 2 ^ 24 + l. Assumes nothing.
-use mathlib.Core.Path.{_≡_, refl}
+use mathlib.Core.Path.{_≡_}
 use Prim.Native.Nat.{ℕ, zero, suc, _+_, _*_, _/_, _%_, _^_, _≤_, _<_}
-use native.Mathlib.Nat.{le-of-lt, lt-of-le-of-lt, mul-comm, mul-assoc, mul-left-comm, mul-add, add-mul, add-assoc, add-comm, add-left-comm, mul-le-mul-left, mul-lt-mul-of-pos-right, mul-one, one-mul}
+use native.Mathlib.Nat.{le-of-lt, lt-of-le-of-lt, mul-le-mul-left, mul-lt-mul-of-pos-right}
 use native.Mathlib.Omega.{arith}
 use Rattle.floats.specs.Steps.{NearRoot}
 
@@ -21,26 +21,17 @@ upper w y = y * (w / 2 ^ 22) / 2 ^ 33
 abbrev pub lower : ℕ → ℕ → ℕ
 lower d y = d * y / 2 ^ 36
 
--- (h * P + l) ^ 2
-square : (h l P : ℕ) → (h * P + l) * (h * P + l) ≡ h * h * (P * P) + (h * l * P + h * l * P) + l * l
-square h l P = simp (mul-add, add-mul, mul-assoc, mul-comm, mul-left-comm, add-assoc, add-comm, add-left-comm) refl
-
 -- a difference modulo 2 ^ 64 that is small is the difference
 pub unwrapped : {a b d : ℕ} → (d + b) % 2 ^ 64 ≡ a → d < 2 ^ 63 → b < 2 ^ 63 → d + b ≡ a
 unwrapped {a} {b} {d} e h k = omega arith
 
 pub excess : (w h l d g rest : ℕ) → d + h * h ≡ w * 16 → g + h * l ≡ d * 2 ^ 23 → rest + l * l ≡ g * 2 ^ 25
     → w * 2 ^ 52 ≡ (h * 2 ^ 24 + l) * (h * 2 ^ 24 + l) + rest
-excess w h l d g rest e f k = sums (h * h) (h * l) (l * l) ((h * 2 ^ 24 + l) * (h * 2 ^ 24 + l)) (square h l (2 ^ 24)) e f k
-  where
-    sums : (hh hl ll q2 : ℕ) → q2 ≡ hh * (2 ^ 24 * 2 ^ 24) + (hl * 2 ^ 24 + hl * 2 ^ 24) + ll → d + hh ≡ w * 16 → g + hl ≡ d * 2 ^ 23 → rest + ll ≡ g * 2 ^ 25 → w * 2 ^ 52 ≡ q2 + rest
-    sums hh hl ll q2 p e f k = omega arith
+excess w h l d g rest e f k = omega arith
 
 -- ---- q or q + 1
 pub up-near : (n q rest : ℕ) → n ≡ q * q + rest → q < rest → rest ≤ q * 3 + 2 → NearRoot n (q + 1)
-up-near n q rest e h k =
-    let f : (q + 1) * (q + 1) ≡ q * q + q * 2 + 1 = simp (mul-add, add-mul, mul-one, one-mul) (omega arith) in
-    record { low = omega arith; high = omega arith }
+up-near n q rest e h k = record { low = omega arith; high = omega arith }
 
 pub down-near : (n q rest : ℕ) → 0 < n → n ≡ q * q + rest → rest ≤ q → NearRoot n q
 down-near n zero rest p e h = absurd (none n rest p e h)

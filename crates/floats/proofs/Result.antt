@@ -2,7 +2,7 @@
 -- Assumes nothing.
 use mathlib.Core.Path.{_≡_, refl, sym, ap, _∙_, subst}
 use Prim.Native.Nat.{ℕ, zero, suc, _+_, _-_, _*_, _/_, _^_, _≤_, _<_}
-use native.Mathlib.Nat.{le-trans, le-of-eq, lt-of-lt-of-le, lt-of-le-of-lt, le-antisymm, le-of-suc-le-suc, lt-of-not-le, not-le-of-lt, zero-add, mul-one, mul-comm, mul-assoc, mul-left-comm, mul-mul-mul-comm, mul-pos, mul-le-mul-right, mul-lt-mul-of-pos-right, mul-div-cancel, le-div-iff-mul-le, div-lt-iff-lt-mul, pow-succ', suc-mul, mul-suc, le-dest, mul-add, add-mul, one-mul, two-mul}
+use native.Mathlib.Nat.{le-trans, le-of-eq, lt-of-lt-of-le, lt-of-le-of-lt, le-antisymm, le-of-suc-le-suc, lt-of-not-le, not-le-of-lt, zero-add, mul-assoc, mul-left-comm, mul-mul-mul-comm, mul-pos, mul-le-mul-right, mul-lt-mul-of-pos-right, mul-div-cancel, le-div-iff-mul-le, div-lt-iff-lt-mul, pow-succ', le-dest, mul-add, one-mul}
 use native.Mathlib.Omega.{arith}
 use mathlib.Core.Bool.{Bool, false, cond}
 use lib.Pow.{pow-add, pow-pos, pow-mono, shl-lt}
@@ -53,34 +53,21 @@ bits-of-value (fin s m e) i q lo hi v =
     ∙ fields q i n is z
 
 -- ---- what `round` makes of a / (4 * L), in units of 1 / L, with h for the power of two that is dropped
-pub spread : (q h L : ℕ) → q * (4 * L * h) ≡ 4 * (q * h * L)
-spread q h L = simp (mul-assoc, mul-comm, mul-left-comm)
-
-pub spread-one : (h L : ℕ) → 4 * L * h ≡ 4 * (h * L)
-spread-one h L = simp (mul-assoc, mul-comm)
-
 scaled-low : (a q h L : ℕ) → 0 < L → 4 * (q * h) < a + 2 * h → 2 * (q * (4 * L * h)) < 2 * (a * L) + 4 * L * h
 scaled-low a q h L p k =
     let x : 4 * (q * h) * L < (a + 2 * h) * L = mul-lt-mul-of-pos-right k p in
-    let e1 : q * (4 * L * h) ≡ 4 * (q * h * L) = spread q h L in
-    let e2 : 4 * (q * h) * L ≡ 4 * (q * h * L) = mul-assoc 4 (q * h) L in
-    let e3 : (a + 2 * h) * L ≡ a * L + 2 * (h * L) = add-mul a (2 * h) L ∙ ap (λ (z : ℕ). a * L + z) (mul-assoc 2 h L) in
-    let e4 : 4 * L * h ≡ 4 * (h * L) = spread-one h L in
     omega arith
 
 scaled-high : (a q h L : ℕ) → 0 < L → a < 4 * (q * h) + 2 * h → 2 * (a * L) < 2 * (q * (4 * L * h)) + 4 * L * h
 scaled-high a q h L p k =
     let x : a * L < (4 * (q * h) + 2 * h) * L = mul-lt-mul-of-pos-right k p in
-    let e1 : q * (4 * L * h) ≡ 4 * (q * h * L) = spread q h L in
-    let e2 : (4 * (q * h) + 2 * h) * L ≡ 4 * (q * h * L) + 2 * (h * L) = add-mul (4 * (q * h)) (2 * h) L ∙ ap (λ (z : ℕ). z + 2 * h * L) (mul-assoc 4 (q * h) L) ∙ ap (λ (z : ℕ). 4 * (q * h * L) + z) (mul-assoc 2 h L) in
-    let e4 : 4 * L * h ≡ 4 * (h * L) = spread-one h L in
     omega arith
 
 quarter-low : (p a L : ℕ) → 4 * p ≤ a → p * (4 * L) ≤ a * L
-quarter-low p a L h = le-trans (le-of-eq (simp (mul-assoc, mul-left-comm))) (mul-le-mul-right L h)
+quarter-low p a L h = let x : 4 * p * L ≤ a * L = mul-le-mul-right L h in omega arith
 
 quarter-high : (p a L : ℕ) → 0 < L → a < 4 * p → a * L < p * (4 * L)
-quarter-high p a L k h = lt-of-lt-of-le (mul-lt-mul-of-pos-right h k) (le-of-eq (simp (mul-assoc, mul-left-comm)))
+quarter-high p a L k h = let x : a * L < 4 * p * L = mul-lt-mul-of-pos-right h k in omega arith
 
 unit-size : (a i : ℕ) → 4 * 2 ^ (52 + i) ≤ a → a < 4 * 2 ^ suc (52 + i) → size (a * 2 ^ 1074 / 2 ^ 1076) ≡ suc (52 + i)
 unit-size a i lo hi =
@@ -126,16 +113,12 @@ odd-above c M i h =
     subst (λ (x : ℕ). x < c * 2 ^ i * (c * 2 ^ i)) (sym (wide-is M i))
     (lt-of-lt-of-le (mul-lt-mul-of-pos-right h (mul-pos (pow-pos i) (pow-pos i))) (le-of-eq (sym (square c (2 ^ i)))))
 
--- (2 * q + 1) ^ 2
-pub odd-square : (q : ℕ) → (2 * q + 1) * (2 * q + 1) ≡ 4 * (q * q) + 4 * q + 1
-odd-square q = simp (two-mul, mul-add, add-mul, mul-one, one-mul) (omega arith)
-
 -- ---- q lies in its 53 digits
 q-low : (M q : ℕ) → 2 ^ 104 ≤ M → M ≤ q * q + q → 2 ^ 52 ≤ q
 q-low M q lo high = le-of-suc-le-suc (lt-of-not-le (λ (g : suc q ≤ 2 ^ 52). clash g (mul-le-mul-right q g)))
   where
     clash : suc q ≤ 2 ^ 52 → suc q * q ≤ 2 ^ 52 * q → ⊥
-    clash g k = let e : suc q * q ≡ q * q + q = suc-mul q q in omega arith
+    clash g k = omega arith
 
 pub q-high : (M q : ℕ) → M + 2 ^ 53 ≤ 2 ^ 106 → q * q < M + q → q < 2 ^ 53
 q-high M q hi low = lt-of-not-le (λ (g : 2 ^ 53 ≤ q). let d = le-dest g in clash (d .0) (d .1) (mul-le-mul-right q g))
@@ -155,30 +138,17 @@ q-high M q hi low = lt-of-not-le (λ (g : 2 ^ 53 ≤ q). let d = le-dest g in cl
 
 -- ---- (2 * q - 1) ^ 2 < 4 * M < (2 * q + 1) ^ 2
 odd-low : (M p : ℕ) → suc p * suc p < M + suc p → (2 * p + 1) * (2 * p + 1) < 4 * M
-odd-low M p h =
-    let e : suc p * suc p ≡ p * p + p + suc p = suc-mul p (suc p) ∙ ap (λ (x : ℕ). x + suc p) (mul-suc p p) in
-    let f : (2 * p + 1) * (2 * p + 1) ≡ 4 * (p * p) + 4 * p + 1 = odd-square p in
-    omega arith
+odd-low M p h = omega arith
 
 odd-high : (M q : ℕ) → M ≤ q * q + q → 4 * M < (2 * q + 1) * (2 * q + 1)
-odd-high M q h =
-    let f : (2 * q + 1) * (2 * q + 1) ≡ 4 * (q * q) + 4 * q + 1 = odd-square q in
-    omega arith
+odd-high M q h = omega arith
 
 -- ---- as bounds on what is rounded
-pub odd-times : (q h : ℕ) → (2 * q + 1) * h ≡ 2 * (q * h) + h
-odd-times q h = add-mul (2 * q) 1 h ∙ ap (λ (x : ℕ). x + 1 * h) (mul-assoc 2 q h) ∙ ap (λ (x : ℕ). 2 * (q * h) + x) (one-mul h)
-
 lower : (a p h : ℕ) → 2 * ((2 * p + 1) * h) < a → 4 * (suc p * h) < a + 2 * h
-lower a p h k =
-    let e : (2 * p + 1) * h ≡ 2 * (p * h) + h = odd-times p h in
-    let f : suc p * h ≡ p * h + h = suc-mul p h in
-    omega arith
+lower a p h k = omega arith
 
 upper : (a q h : ℕ) → a < 2 * ((2 * q + 1) * h) → a < 4 * (q * h) + 2 * h
-upper a q h k =
-    let e : (2 * q + 1) * h ≡ 2 * (q * h) + h = odd-times q h in
-    omega arith
+upper a q h k = omega arith
 
 first-digit : (i : ℕ) → 2 * (2 ^ 52 * 2 ^ suc i) ≡ 4 * 2 ^ (52 + i)
 first-digit i =

@@ -1,48 +1,37 @@
 -- The square root from zero up: its sign is clear, it is finite, and it stands against a value by their squares (`root-at-least`, `root-at-most`: the laws `below-root` and
 -- `above-root` with zeros allowed). And u ≤ √(2·u) for a u from 0 to 2. That it is monotone is `sqrt-mono-up`. Assumes nothing.
-use mathlib.Core.Path.{_≡_, refl, sym, ap, _∙_, subst}
-use mathlib.Core.Logic.{_⊎_, inl, inr}
+use mathlib.Core.Path.{_≡_, sym, ap, _∙_, subst}
+use mathlib.Core.Logic.{inl, inr}
 use Prim.Native.Nat.{ℕ, zero, suc, _*_, _^_, _≤_, _<_}
 use native.Mathlib.Nat.{le-trans, le-of-eq, lt-irrefl, lt-of-le-of-lt, lt-of-lt-of-le, zero-mul, zero-lt-suc, mul-one, mul-comm, mul-assoc, mul-right-comm, mul-pos, mul-le-mul-right, mul-le-mul-left, mul-lt-mul-of-pos-right}
 use mathlib.Core.Bool.{false}
-use lib.IntN.{ℤ}
 use lib.Dec.{T, lt→ltb, lit<}
 use lib.Ieee.{Float, fin, binary64, le, fits, ofBits}
-use lib.Ieee.Fits.{mul-fits}
+use lib.Ieee.Fits.{up-pos, mul-fits}
 use lib.Ieee.Exact.{HasValue}
 use lib.Ieee.Positive.{num, den, den-pos, positive, value→cross}
 use Rattle.floats.specs.Binary64.{_⊗_, two}
 use Rattle.floats.specs.Root.{sqrtOf}
-use Rattle.floats.proofs.Laws.{SquareLe, LeSquare, sqrt-is, sqrt-positive, below-root, above-root}
-use Rattle.floats.proofs.Order.{clear, nonneg, NonNeg, value, Clear, top, finite, nonneg-case, clear-case, positive→nonneg, zero-or-positive, num-pos, nonneg-of-value, le→fractions, fractions→le, at-zero, round-clear}
+use Rattle.floats.proofs.Laws.{SquareLe, LeSquare, sqrt-zero, sqrt-clear, sqrt-positive, below-root, above-root}
+use Rattle.floats.proofs.Order.{clear, nonneg, NonNeg, value, Clear, top, finite, nonneg-case, clear-case, positive→nonneg, zero-or-positive, num-pos, nonneg-of-value, le→fractions, fractions→le, at-zero}
 use Rattle.floats.proofs.Monotone.{double-exact}
 
 -- ---- its sign and its size
-root-zero : (e : ℤ) → sqrtOf (fin false 0 e) ≡ fin false 0 e
-unfolding sqrtOf
-root-zero e = refl
-
 pub root-clear : (y : Float) → T (clear y) → T (clear (sqrtOf y))
 root-clear y p = go (clear-case y p)
   where
-    above : (y : Float) → T (positive y) → T (clear (sqrtOf y))
-    above y q = subst (λ (z : Float). T (clear z)) (sym (sqrt-is y q)) (round-clear binary64 _ _)
-
     go : {y : Float} → Clear y → T (clear (sqrtOf y))
     go top = unfold sqrtOf in tt
-    go (finite (value zero e)) = subst (λ (z : Float). T (clear z)) (sym (root-zero e)) tt
-    go (finite (value (suc m) e)) = above (fin false (suc m) e) (lt→ltb 0 (suc m) (zero-lt-suc m))
+    go (finite (value zero e)) = unfold sqrtOf in tt
+    go (finite (value (suc m) e)) = sqrt-clear (fin false (suc m) e) (lt→ltb 0 (suc m) (zero-lt-suc m))
 
 -- the root of a zero is that zero
 root-of-zero : (y : Float) → T (nonneg y) → num y ≡ 0 → sqrtOf y ≡ y
-root-of-zero y p z = elim (zero-case y p) [ inl r ↦ r | inr q ↦ absurd (lt-irrefl 0 (subst (λ (k : ℕ). 0 < k) z (num-pos y q))) ]
+root-of-zero y p z = go (nonneg-case y p) z
   where
-    go : {y : Float} → NonNeg y → (sqrtOf y ≡ y) ⊎ T (positive y)
-    go (value zero e) = inl (root-zero e)
-    go (value (suc m) e) = inr (lt→ltb 0 (suc m) (zero-lt-suc m))
-
-    zero-case : (y : Float) → T (nonneg y) → (sqrtOf y ≡ y) ⊎ T (positive y)
-    zero-case y p = go (nonneg-case y p)
+    go : {y : Float} → NonNeg y → num y ≡ 0 → sqrtOf y ≡ y
+    go (value zero e) z = sqrt-zero false e
+    go (value (suc m) e) z = absurd (lt-irrefl 0 (subst (λ (k : ℕ). 0 < k) z (mul-pos (zero-lt-suc m) (up-pos e))))
 
 pub root-nonneg : (y : Float) → T (nonneg y) → T (fits binary64 y) → T (nonneg (sqrtOf y))
 root-nonneg y p t =

@@ -1,7 +1,6 @@
 -- Each operation gives equal results at equal arguments: what a search needs to follow a chain of calls. Assumes nothing.
-use mathlib.Core.Path.{_≡_, refl, sym, _∙_, ap, ap₂}
-use mathlib.Core.Bool.{Bool, true, false}
-use lib.Ieee.{Float, binary64, add, sub, mul, div, neg, lt, le, eq}
+use mathlib.Core.Path.{_≡_, refl, sym, _∙_}
+use lib.Ieee.{Float, binary64, add, sub, mul, div, neg, lt, le}
 use Rattle.floats.specs.Size.{absOf}
 use Rattle.floats.specs.Root.{sqrtOf}
 use Rattle.floats.proofs.Choice.{yes, no, and-yes, and-no, or-yes, or-no}
@@ -36,9 +35,6 @@ sqrt-same a b p = cc
 -- the fact first: it shows what was tested
 pub tested : {X : Type 0} {a b v : X} → a ≡ v → a ≡ b → b ≡ v
 tested p q = sym q ∙ p
-
-pub next : {X : Type 0} {a b d : X} → a ≡ b → b ≡ d → a ≡ d
-next p q = p ∙ q
 
 pub ruleset sames = (refl, tt, add-same, sub-same, mul-same, div-same, neg-same, lt-same, le-same, abs-same, sqrt-same)
 

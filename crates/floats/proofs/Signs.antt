@@ -4,7 +4,7 @@ use mathlib.Core.Path.{_≡_, refl, sym, ap, _∙_}
 use Prim.Native.Nat.{ℕ, zero, suc, _+_, _-_, _*_, _^_, _≤_}
 use native.Mathlib.Nat.{add-comm, mul-comm}
 use native.Mathlib.Omega.{arith}
-use mathlib.Core.Bool.{Bool, true, false, not, Bool·beq, cond}
+use mathlib.Core.Bool.{Bool, true, false, not, Bool·beq, Bool·not-not, cond}
 use lib.Dec.{T, ltb, ltb→lt, nltb→le}
 use lib.Ieee.{Float, nan, inf, fin, Format, binary64, prec, emax, low, up, down, odd, units, round, sum, neg, sub, below, lt}
 use lib.Ieee.Fits.{round-is}
@@ -13,15 +13,11 @@ use Rattle.floats.specs.Size.{absOf, within}
 use Rattle.floats.proofs.Order.{number, clear}
 
 -- ---- negatives
-not-not : (s : Bool) → not (not s) ≡ s
-not-not true = refl
-not-not false = refl
-
 pub neg-neg : (x : Float) → neg (neg x) ≡ x
 unfolding neg
 neg-neg nan = refl
-neg-neg (inf s) = ap inf (not-not s)
-neg-neg (fin s m e) = ap (λ (b : Bool). fin b m e) (not-not s)
+neg-neg (inf s) = ap inf (Bool·not-not s)
+neg-neg (fin s m e) = ap (λ (b : Bool). fin b m e) (Bool·not-not s)
 
 below-neg : (s : Bool) (a : ℕ) (t : Bool) (b : ℕ) → below (not s) a (not t) b ≡ below t b s a
 below-neg true a true b = refl
@@ -41,7 +37,7 @@ lt-neg (inf false) (inf true) = refl
 lt-neg (inf false) (inf false) = refl
 lt-neg (inf s) (fin t n d) = refl
 lt-neg (fin s m e) nan = refl
-lt-neg (fin s m e) (inf t) = not-not t
+lt-neg (fin s m e) (inf t) = Bool·not-not t
 lt-neg (fin s m e) (fin t n d) = below-neg s (m * up e * down d) t (n * up d * down e)
 
 -- ---- sizes

@@ -10,8 +10,7 @@ use borrow.Author.Tests.{eqb-true, leb-true, ne-eqb, not-false}
 use lib.Ieee.{Float}
 use lib.ListN.{getD, length, drop, length-append}
 use lib.Seq.{sets}
-use Rattle.floats.specs.Choice.{_and_}
-use Rattle.floats.proofs.Choice.{yes, no, and-no}
+use Rattle.floats.proofs.Choice.{yes, no, and-no, both-pass}
 use Rattle.packed.specs.declared.job.Packed.{Packed}
 use Rattle.packed.specs.declared.job.Packed.the-variants.{Job, Malformed}
 use Rattle.packed.specs.Packed.{bigEndian, numbersOf, wellFormed, countOf, sourceOf, jobOf, decoded, decodedOf}
@@ -65,25 +64,15 @@ placed bytes k old h =
 
 -- ---- well formed
 
-both-left : (a b : Bool) → (a and b) ≡ true → a ≡ true
-unfolding _and_
-both-left true b h = refl
-both-left false b h = h
-
-both-right : (a b : Bool) → (a and b) ≡ true → b ≡ true
-unfolding _and_
-both-right true b h = h
-both-right false b h = let z : false ≡ true = h in cc
-
 module _ (bytes : List ℕ) where
   -- the size is that of the count, and the count is at most 512
   pub sized : wellFormed bytes ≡ true → length bytes ≡ 18 + 24 * countOf bytes
   unfolding wellFormed
-  sized h = eqb-true _ _ (both-left _ _ (both-left _ _ h))
+  sized h = eqb-true _ _ (both-pass _ _ .0 (both-pass _ _ .0 h .0) .0)
 
   pub few : wellFormed bytes ≡ true → countOf bytes ≤ 512
   unfolding wellFormed
-  few h = leb-true _ _ (both-right _ _ h)
+  few h = leb-true _ _ (both-pass _ _ .0 h .1)
 
   -- too short for the offset and ε
   pub short : length bytes < 18 → false ≡ wellFormed bytes

@@ -7,6 +7,7 @@ use Prim.Native.Nat.{ℕ, suc, _<_}
 use lib.Ieee.{Float, lt, le, ofBits}
 use Rattle.floats.specs.Binary64.{zero}
 use Rattle.floats.specs.Size.{finite}
+use Rattle.floats.proofs.Choice.{both-pass}
 use Rattle.floats.proofs.Order.{lt-le-through}
 use Rattle.vectors.specs.Plane.{near}
 use Rattle.vectors.specs.declared.Vector2.{Vector2}
@@ -16,7 +17,7 @@ use Rattle.refusals.specs.declared.Place.the-variants.{Nowhere}
 use Rattle.refusals.specs.Source.{verticesOf}
 use Rattle.refusals.specs.Limits.{leastEps, mostEps, inside, goodVertex, goodOffset, goodEps, numberTests, firstFrom}
 use Rattle.refusals.proofs.First.{by-test}
-use Rattle.refusals.proofs.Bad.{passes, not-fails, both-pass}
+use Rattle.refusals.proofs.Bad.{passes, not-fails}
 use Rattle.refusals.proofs.NumberRow.{number-nowhere}
 use Rattle.emission.specs.declared.Move.{Move}
 use Rattle.emission.specs.Moves as M

@@ -16,6 +16,7 @@ use Rattle.refusals.proofs.Source.{flat-vertices, count-vertices}
 use Rattle.refusals.proofs.Segments.{segments-closed, segments-open}
 use Rattle.emission.specs.Buffers.{Buffers, buffers, flat, shown}
 use Rattle.emission.specs.Steps.{over, wiped}
+use Rattle.emission.proofs.Finishes.{buffers-eq}
 use Rattle.emission.proofs.Over.{cleared-after, cleared-whole, padded-same}
 use Rattle.walk.specs.Steps.{Ready}
 use Rattle.raw_offset.specs.declared.RawOffsetAnswer.{RawOffsetAnswer}
@@ -50,9 +51,6 @@ flat-source s v h = flat-vertices flat refl (λ (w : PlineVertex) (ws : List Pli
 source-room : (closed : Bool) (v : ℕ) → 2 ≤ v → v ≤ 2 * segmentsOf closed v
 source-room true v h = rw (segments-closed v h) (omega arith)
 source-room false v h = rw (segments-open v h) (omega arith)
-
-buffers-eq : {v v′ : List Float} {f f′ i i′ : List ℕ} → v ≡ v′ → f ≡ f′ → i ≡ i′ → buffers v f i ≡ buffers v′ f′ i′
-buffers-eq a b c = cc
 
 ending-eq : {a a′ : RawOffsetAnswer} {b b′ : Buffers} → a ≡ a′ → b ≡ b′ → ending a b ≡ ending a′ b′
 ending-eq h k = cc

@@ -5,8 +5,8 @@ use mathlib.Core.List.{List, [], _∷_, List·Memᴰ, List·Memᴰ·head, List·
 use mathlib.Core.Bool.{false, false≢true}
 use lib.Ieee.{Float, nan, inf, fin}
 use Rattle.floats.specs.Size.{finite}
+use Rattle.floats.proofs.Choice.{either-fails}
 use Rattle.emission.specs.Buffers.{allFinite}
-use Rattle.refusals.proofs.Bad.{either-fails}
 use Rattle.raw_offset.specs.Rows.{Endless, not-a-number, infinite}
 
 unbounded : (x : Float) → finite x ≡ false → Endless x

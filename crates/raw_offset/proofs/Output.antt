@@ -11,12 +11,12 @@ use lib.Ieee.{Float, nan, inf, fin, isNan}
 use Rattle.floats.specs.Binary64.{zero}
 use Rattle.floats.specs.Choice.{pick, _and_}
 use Rattle.floats.specs.Size.{finite}
+use Rattle.floats.proofs.Choice.{both-pass}
 use Rattle.vectors.specs.Plane.{near}
 use Rattle.vectors.specs.declared.Vector2.{Vector2}
 use Rattle.segments.specs.declared.PlineVertex.{PlineVertex}
 use Rattle.segments.specs.Vertex.{posOf, vertexAt}
 use Rattle.refusals.specs.Source.{around}
-use Rattle.refusals.proofs.Bad.{both-pass}
 use Rattle.emission.specs.declared.Move.{Move}
 use Rattle.emission.specs.Drawing.{kept, lastPoint, corners, drawnOpen, drawnClosed}
 use Rattle.emission.specs.Choice.{Apart}

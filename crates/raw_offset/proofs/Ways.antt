@@ -9,7 +9,8 @@ use lib.ListN.{length}
 use lib.Ieee.{eq}
 use Rattle.floats.specs.Binary64.{zero}
 use Rattle.floats.specs.Choice.{pick, _and_}
-use Rattle.floats.proofs.Choice.{yes, no}
+use Rattle.floats.proofs.Choice.{yes, no, either-fails, both-pass}
+use Rattle.floats.proofs.Order.{fails}
 use Rattle.refusals.specs.declared.Place.{Place}
 use Rattle.refusals.specs.declared.Place.the-variants.{Nowhere, At}
 use Rattle.refusals.specs.Source.{verticesOf}
@@ -17,7 +18,7 @@ use Rattle.refusals.specs.Limits.{numberTests, repeatTests, firstOf}
 use Rattle.refusals.proofs.First.{by-test}
 use Rattle.refusals.proofs.NumberRow.{number-row, number-nowhere}
 use Rattle.refusals.proofs.RepeatedRow.{repeated-row, repeated-nowhere}
-use Rattle.refusals.proofs.Bad.{passes, either-fails, both-pass}
+use Rattle.refusals.proofs.Bad.{passes, not-fails}
 use Rattle.emission.specs.Drawing.{Drawing, nothing}
 use Rattle.emission.specs.Buffers.{Buffers, flat, shown, allFinite, emptyResult}
 use Rattle.walk.specs.Walk.{drawingOf}
@@ -41,13 +42,6 @@ not-found p f old next e q = rw e q
 
 not-yes : (t : Bool) → t ≡ true → not t ≡ false
 not-yes t e = rw e
-
-not-no : (t : Bool) → t ≡ false → not t ≡ true
-not-no t e = rw e
-
-fails : (b : Bool) → (T b → ⊥) → b ≡ false
-fails true n = absurd (n tt)
-fails false n = refl
 
 -- ---- room
 
@@ -132,11 +126,11 @@ module _ (j : Job) where
   leadsTo (drawn d f) = done (places j) drawing (j .buffers)
 
   pub ends : (w : Way) → leadsTo w ≡ outcome j
-  ends (ragged r) = unfold jobOf in yes _ _ _ (not-no _ (ne-eqb _ _ r)) refl
+  ends (ragged r) = unfold jobOf in yes _ _ _ (not-fails _ .1 (ne-eqb _ _ r)) refl
   ends (many r) = unfold jobOf in no _ _ _ (not-yes _ (eq-eqb _ _ (r .threes))) (yes _ _ _ (lt-ltb _ _ (r .many)) refl)
   ends (bad k r) = whole-way (r .whole) (found _ k _ _ _ (number-row _ _ _ k .1 (r .bad)))
   ends (few n h) = numbers-way n (yes _ _ _ (lt-ltb _ _ h) refl)
-  ends (tight r) = numbers-way (r .numbers) (no _ _ _ (le-ltb _ _ (r .two)) (yes _ _ _ (not-no _ (no-room j (r .short))) refl))
+  ends (tight r) = numbers-way (r .numbers) (no _ _ _ (le-ltb _ _ (r .two)) (yes _ _ _ (not-fails _ .1 (no-room j (r .short))) refl))
   ends (copy r z) = roomy-way r (yes _ _ _ (passes _ .1 z) refl)
   ends (repeated k r) = roomy-way (r .roomy) (no _ _ _ (fails _ (r .nonzero)) (found _ k _ _ _ (repeated-row _ _ _ k .1 (r .repeated))))
   ends (endless r) = distinct-way (r .distinct) (unfold built in no _ _ _ (holds→fails (r .held) (r .endless)) refl)

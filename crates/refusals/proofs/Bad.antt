@@ -1,12 +1,13 @@
 -- A number is outside its limits exactly where it is bad: a NaN, an infinity, below the lower limit or above the upper one. Assumes nothing.
 use mathlib.Core.Path.{_≡_, refl, sym, subst}
-use mathlib.Core.Logic.{_↔_, _⊎_, inl, inr, ⊎-elim}
+use mathlib.Core.Logic.{_↔_, inl, inr, ⊎-elim}
 use mathlib.Core.Bool.{Bool, true, false, not}
 use lib.Dec.{T}
 use lib.Ieee.{Float, nan, inf, fin, neg, le, ofBits}
 use Rattle.floats.specs.Choice.{_and_}
 use Rattle.floats.specs.Size.{finite}
-use Rattle.floats.proofs.Order.{number, nle→lt, lt→nle}
+use Rattle.floats.proofs.Choice.{either-fails}
+use Rattle.floats.proofs.Order.{fails, number, nle→lt, lt→nle}
 use Rattle.segments.specs.declared.PlineVertex.{PlineVertex}
 use Rattle.refusals.specs.Limits.{reach, bulgeLimit, leastEps, mostEps, inside, goodVertex, goodOffset, goodEps}
 use Rattle.refusals.specs.Rows.{Bad, not-a-number, infinite, below, above, BadVertex, by-x, by-y, by-bulge}
@@ -19,24 +20,9 @@ passes false = (λ e. subst T (sym e) tt, λ t. absurd t)
 failed : (b : Bool) → b ≡ false → T (not b)
 failed b e = subst (λ (t : Bool). T (not t)) (sym e) tt
 
-refuted : (b : Bool) → (T b → ⊥) → b ≡ false
-refuted true n = absurd (n tt)
-refuted false n = refl
-
 pub not-fails : (b : Bool) → (not b ≡ true) ↔ (b ≡ false)
 not-fails true = (λ e. sym e, λ e. sym e)
 not-fails false = (λ _. refl, λ _. refl)
-
--- both do not hold where one does not
-pub either-fails : (a b : Bool) → ((a and b) ≡ false) ↔ ((a ≡ false) ⊎ (b ≡ false))
-unfolding _and_
-either-fails true b = (inr, ⊎-elim (λ e. let z : true ≡ false = e in cc) (λ e. e))
-either-fails false b = (inl, λ _. refl)
-
-pub both-pass : (a b : Bool) → ((a and b) ≡ true) ↔ ((a ≡ true) × (b ≡ true))
-unfolding _and_
-both-pass true b = (λ e. (refl, e), λ p. p .1)
-both-pass false b = (λ e. let z : true ≡ false = sym e in (e, cc), λ p. p .0)
 
 -- ---- one number, between limits that are finite
 number-of : (x : Float) → T (finite x) → T (number x)
@@ -75,8 +61,8 @@ module _ (lo hi : Float) (low : T (finite lo)) (high : T (finite hi)) where
   bad→outside : (x : Float) → Bad lo hi x → inside lo hi x ≡ false
   bad→outside x (not-a-number e) = rw e (never lo hi)
   bad→outside x (infinite s e) = rw e (far lo hi s low high)
-  bad→outside x (below h) = unfold inside in either-fails (le lo x) (le x hi) .1 (inl (refuted (le lo x) (lt→nle x lo h)))
-  bad→outside x (above h) = unfold inside in either-fails (le lo x) (le x hi) .1 (inr (refuted (le x hi) (lt→nle hi x h)))
+  bad→outside x (below h) = unfold inside in either-fails (le lo x) (le x hi) .1 (inl (fails (le lo x) (lt→nle x lo h)))
+  bad→outside x (above h) = unfold inside in either-fails (le lo x) (le x hi) .1 (inr (fails (le x hi) (lt→nle hi x h)))
 
   pub outside↔bad : (x : Float) → (inside lo hi x ≡ false) ↔ Bad lo hi x
   outside↔bad x = (outside→bad x, bad→outside x)

@@ -12,6 +12,7 @@ use lib.Ieee.{Float, lt}
 use Rattle.floats.specs.Choice.{pick}
 use Rattle.floats.specs.Size.{absOf, within}
 use Rattle.floats.specs.Binary64.{_⊖_}
+use Rattle.floats.proofs.Choice.{both-pass}
 use Rattle.vectors.specs.Plane.{near}
 use Rattle.segments.specs.declared.PlineVertex.{PlineVertex}
 use Rattle.refusals.specs.declared.Place.the-variants.{Nowhere, At}
@@ -21,7 +22,7 @@ use Rattle.refusals.specs.Rows.{Repeats, Joined, next, closing, Repeated
 use Rattle.refusals.proofs.First.{first-row, nowhere-row}
 use Rattle.refusals.proofs.Tests.{vertex-there, holds-before, neighbour-length, closed-length}
 use Rattle.refusals.proofs.Joined.{joined-test}
-use Rattle.refusals.proofs.Bad.{passes, both-pass}
+use Rattle.refusals.proofs.Bad.{passes}
 
 module _ (ε : Float) (a b : PlineVertex) where
   pub repeats↔ : (repeats ε a b ≡ true) ↔ Repeats ε a b

@@ -16,6 +16,7 @@ use Rattle.joins.specs.declared.JoinBoundary.{JoinBoundary}
 use Rattle.emission.specs.declared.Move.{Move}
 use Rattle.emission.specs.Drawing.{Drawing, nothing, kept, drawnOpen, drawnClosed}
 use Rattle.emission.specs.Steps.{Fits}
+use Rattle.emission.proofs.Finishes.{nothing-fits}
 use Rattle.emission.proofs.Walks.{open-fits, closed-fits}
 use Rattle.refusals.specs.Source.{segmentsOf}
 use Rattle.refusals.proofs.Segments.{segments-closed, segments-open}
@@ -87,9 +88,6 @@ module _ (offset ε : Float) (a b : PlineVertex) (vs : List PlineVertex) where
   walk-fits true =
       let n = closed-most in
       rw (segments-closed (length (a ∷ b ∷ vs)) (omega arith), closed-drawing) (closed-fits ε _ (walkMoves true offset ε a b vs) _ (omega arith))
-
-nothing-fits : (room : ℕ) → Fits room nothing
-nothing-fits room = record { vertices = omega arith; flags = omega arith; indexes = omega arith }
 
 either-fits : (t : Bool) (room : ℕ) (d : Drawing) → Fits room d → Fits room (pick t nothing d)
 unfolding pick
