@@ -1,28 +1,16 @@
 //! The program of 01 section 5 on 000: one packed job, and the text of its answer.
 
-use crate::job;
+use crate::stage::Job;
 
 const MOST_VERTICES: usize = 512;
 
 /// The answer to a packed job, as `rawoffset` prints it.
 pub fn answer(bytes: &[u8]) -> String {
-    let Some((closed, numbers)) = decode(bytes) else {
+    let Some(job) = decode(bytes) else {
         return "7 0\n".to_owned();
     };
-    let (offset, eps, source) = (numbers[0], numbers[1], &numbers[2..]);
-    let room = 2 * MOST_VERTICES;
-    let mut vertices = vec![0.0; 3 * room];
-    let mut flags = vec![0; room];
-    let mut indexes = vec![0; room];
-    let [number, place, count, _, is_closed] = job(
-        source,
-        closed,
-        offset,
-        eps,
-        &mut vertices,
-        &mut flags,
-        &mut indexes,
-    );
+    let outcome = job.run(crate::job);
+    let [number, place, count, _, is_closed] = outcome.answer;
     if number != 0 {
         return format!("{number} {place}\n");
     }
@@ -31,13 +19,13 @@ pub fn answer(bytes: &[u8]) -> String {
         "0 {count} {}\n",
         if is_closed == 1 { "closed" } else { "open" }
     );
-    for (i, vertex) in vertices.chunks(3).take(count).enumerate() {
-        for number in vertex {
-            text += &format!("{:016x} ", number.to_bits());
+    for (i, vertex) in outcome.vertices.chunks(3).take(count).enumerate() {
+        for bits in vertex {
+            text += &format!("{bits:016x} ");
         }
         text += if is_closed == 0 && i + 1 == count {
             "-\n"
-        } else if flags[i] == 1 {
+        } else if outcome.flags[i] == 1 {
             "!\n"
         } else {
             ".\n"
@@ -46,9 +34,9 @@ pub fn answer(bytes: &[u8]) -> String {
     text
 }
 
-/// The closed mark, and all numbers: offset, ε, then three a vertex. `None` where the size is wrong,
-/// a zero bit is set or there are too many vertices.
-fn decode(bytes: &[u8]) -> Option<(bool, Vec<f64>)> {
+/// The closed mark, then numbers: offset, ε, three a vertex. `None` where the size is wrong, a zero
+/// bit is set or there are too many vertices.
+fn decode(bytes: &[u8]) -> Option<Job> {
     let (header, rest) = bytes.split_first_chunk()?;
     let header = u16::from_be_bytes(*header);
     let v = usize::from(header & 0xfff);
@@ -56,8 +44,8 @@ fn decode(bytes: &[u8]) -> Option<(bool, Vec<f64>)> {
         return None;
     }
     let (words, _) = rest.as_chunks();
-    Some((
-        header & 0x8000 != 0,
-        words.iter().map(|w| f64::from_be_bytes(*w)).collect(),
-    ))
+    let mut numbers = words.iter().map(|word| f64::from_be_bytes(*word));
+    let (offset, eps) = (numbers.next()?, numbers.next()?);
+    let closed = header & 0x8000 != 0;
+    Some(Job::new(closed, offset, eps, numbers.collect()))
 }

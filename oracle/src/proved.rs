@@ -1,6 +1,6 @@
 //! The proved code, called through its archive.
 
-use crate::stage::Answer;
+use crate::stage::{Answer, Job, Lent};
 
 unsafe extern "C" {
     fn blidrosk_raw_offset(
@@ -24,30 +24,22 @@ const TORN: Answer = [u32::MAX; 5];
 
 /// Works one job on the proved code. Its number comes back twice; where the two differ, the answer
 /// is `TORN`.
-pub fn job(
-    source: &[f64],
-    closed: bool,
-    offset: f64,
-    eps: f64,
-    vertices: &mut [f64],
-    flags: &mut [u8],
-    indexes: &mut [u32],
-) -> Answer {
+pub fn job(job: &Job, lent: Lent) -> Answer {
     let mut answer = TORN;
     // SAFETY: each pointer is lent with its own length, and the answer has five places.
     let number = unsafe {
         blidrosk_raw_offset(
-            source.as_ptr(),
-            source.len(),
-            closed,
-            offset,
-            eps,
-            vertices.as_mut_ptr(),
-            vertices.len(),
-            flags.as_mut_ptr(),
-            flags.len(),
-            indexes.as_mut_ptr(),
-            indexes.len(),
+            job.source.as_ptr(),
+            job.source.len(),
+            job.closed,
+            job.offset,
+            job.eps,
+            lent.vertices.as_mut_ptr(),
+            lent.vertices.len(),
+            lent.flags.as_mut_ptr(),
+            lent.flags.len(),
+            lent.indexes.as_mut_ptr(),
+            lent.indexes.len(),
             answer.as_mut_ptr(),
         )
     };

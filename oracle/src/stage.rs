@@ -1,10 +1,12 @@
 //! A job as one value, its whole outcome as another, and what can work the one into the other.
 
+use crate::polyline::{PlineVertex, Polyline};
+
 /// Number, place, vertices, indexes, closed mark.
 pub type Answer = [u32; 5];
 
-/// Whatever works a job: source, closed mark, offset, ε, and the three lent buffers.
-pub type Stage = fn(&[f64], bool, f64, f64, &mut [f64], &mut [u8], &mut [u32]) -> Answer;
+/// Whatever works a job into the buffers that it is lent.
+pub type Stage = fn(&Job, Lent) -> Answer;
 
 #[derive(Debug, Clone, PartialEq)]
 pub struct Job {
@@ -51,24 +53,63 @@ impl Job {
         self.room = [3 * count, count, count];
     }
 
+    /// The source, with what is over of a ragged one left out.
+    pub fn polyline(&self) -> Polyline {
+        let vertices = self.source.chunks_exact(3);
+        Polyline {
+            vertices: vertices
+                .map(|n| PlineVertex::new(n[0], n[1], n[2]))
+                .collect(),
+            is_closed: self.closed,
+        }
+    }
+
     pub fn run(&self, stage: Stage) -> Outcome {
-        let mut vertices = vec![BEFORE.0; self.room[0]];
-        let mut flags = vec![BEFORE.1; self.room[1]];
-        let mut indexes = vec![BEFORE.2; self.room[2]];
-        let answer = stage(
-            &self.source,
-            self.closed,
-            self.offset,
-            self.eps,
-            &mut vertices,
-            &mut flags,
-            &mut indexes,
-        );
+        self.run_among(self.room, stage)
+    }
+
+    /// Runs with buffers of so many places, of which the job is lent the first.
+    pub fn run_among(&self, places: [usize; 3], stage: Stage) -> Outcome {
+        let mut buffers = Buffers::of(places);
+        let answer = stage(self, buffers.lend(self.room));
         Outcome {
             answer,
-            vertices: vertices.into_iter().map(f64::to_bits).collect(),
-            flags,
-            indexes,
+            vertices: buffers.vertices.into_iter().map(f64::to_bits).collect(),
+            flags: buffers.flags,
+            indexes: buffers.indexes,
+        }
+    }
+}
+
+/// What a job may write to: numbers, flags and indexes.
+pub struct Lent<'a> {
+    pub vertices: &'a mut [f64],
+    pub flags: &'a mut [u8],
+    pub indexes: &'a mut [u32],
+}
+
+/// Places to lend.
+pub struct Buffers {
+    vertices: Vec<f64>,
+    flags: Vec<u8>,
+    indexes: Vec<u32>,
+}
+
+impl Buffers {
+    pub fn of([numbers, flags, indexes]: [usize; 3]) -> Self {
+        Self {
+            vertices: vec![BEFORE.0; numbers],
+            flags: vec![BEFORE.1; flags],
+            indexes: vec![BEFORE.2; indexes],
+        }
+    }
+
+    /// The first places of each kind.
+    pub fn lend(&mut self, [numbers, flags, indexes]: [usize; 3]) -> Lent<'_> {
+        Lent {
+            vertices: &mut self.vertices[..numbers],
+            flags: &mut self.flags[..flags],
+            indexes: &mut self.indexes[..indexes],
         }
     }
 }

@@ -6,8 +6,8 @@
 //! `create_raw_offset`, on a polyline that stands ready, into lists of its own. `atans` is how many
 //! arc tangents a vertex takes, on all sides alike.
 use oracle::polyline::internal::raw_pline_offset::create_raw_offset;
-use oracle::polyline::{PlineVertex, Polyline};
-use oracle::stage::{Job, Outcome, Stage};
+use oracle::polyline::Polyline;
+use oracle::stage::{Buffers, Job, Outcome, Stage};
 use oracle::traced::{self, Site, Trace};
 use std::f64::consts::TAU;
 use std::hint::black_box;
@@ -141,46 +141,21 @@ fn slow(i: usize) -> f64 {
     (0.05 * i as f64).sin()
 }
 
-/// Places to write to, lent to one side again and again.
-struct Buffers {
-    vertices: Vec<f64>,
-    flags: Vec<u8>,
-    indexes: Vec<u32>,
-}
-
-impl Buffers {
-    fn of(job: &Job) -> Self {
-        let [numbers, flags, indexes] = job.room;
-        Self {
-            vertices: vec![0.0; numbers],
-            flags: vec![0; flags],
-            indexes: vec![0; indexes],
-        }
-    }
-
-    fn run(&mut self, job: &Job, stage: Stage) {
-        let answer = stage(
-            black_box(&job.source),
-            job.closed,
-            job.offset,
-            job.eps,
-            &mut self.vertices,
-            &mut self.flags,
-            &mut self.indexes,
-        );
-        black_box((answer, &mut self.vertices));
-    }
+/// Works a job, into buffers that one side is lent again and again.
+fn run(job: &Job, stage: Stage, buffers: &mut Buffers) {
+    black_box(stage(black_box(job), buffers.lend(job.room)));
+    black_box(buffers);
 }
 
 /// The least times of the proved code, of 000's job and of 000's walk, in nanoseconds a vertex.
 fn least(job: &Job, turns: usize) -> [f64; 3] {
-    let pline = polyline(job);
-    let (mut proved, mut plain) = (Buffers::of(job), Buffers::of(job));
+    let pline = job.polyline();
+    let (mut proved, mut plain) = (Buffers::of(job.room), Buffers::of(job.room));
     let mut best = [f64::MAX; 3];
     for _ in 0..turns {
         let times = [
-            time(|| proved.run(job, oracle::proved::job)),
-            time(|| plain.run(job, oracle::job)),
+            time(|| run(job, oracle::proved::job, &mut proved)),
+            time(|| run(job, oracle::job, &mut plain)),
             time(|| {
                 let drawn =
                     create_raw_offset::<_, _, Polyline>(black_box(&pline), job.offset, job.eps);
@@ -198,16 +173,6 @@ fn time(run: impl FnOnce()) -> f64 {
     let start = Instant::now();
     run();
     start.elapsed().as_nanos() as f64
-}
-
-fn polyline(job: &Job) -> Polyline {
-    let vertices = job.source.chunks(3);
-    Polyline {
-        vertices: vertices
-            .map(|n| PlineVertex::new(n[0], n[1], n[2]))
-            .collect(),
-        is_closed: job.closed,
-    }
 }
 
 fn job_of(shape: &Shape, v: usize, side: f64) -> Job {

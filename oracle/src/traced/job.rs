@@ -3,8 +3,8 @@
 use super::joins::Setting;
 use super::moves::Drawing;
 use super::{Event, Site, Trace};
-use crate::polyline::{PlineSource, PlineVertex, Polyline};
-use crate::stage::{Answer, Job};
+use crate::polyline::{PlineSource, Polyline};
+use crate::stage::{Answer, Job, Lent};
 
 /// What a job comes to, before it is written into the lent buffers.
 enum Result {
@@ -13,24 +13,9 @@ enum Result {
 }
 
 /// The traced job as a stage of its own.
-pub fn stage(
-    source: &[f64],
-    closed: bool,
-    offset: f64,
-    eps: f64,
-    vertices: &mut [f64],
-    flags: &mut [u8],
-    indexes: &mut [u32],
-) -> Answer {
-    let job = Job {
-        source: source.to_vec(),
-        closed,
-        offset,
-        eps,
-        room: [vertices.len(), flags.len(), indexes.len()],
-    };
-    let result = Trace::new().result(&job);
-    write(&job, &result, vertices, flags, indexes)
+pub fn stage(job: &Job, lent: Lent) -> Answer {
+    let result = Trace::new().result(job);
+    write(job, &result, lent)
 }
 
 /// Works a job on a trace: the answer, and the bits of the drawn numbers, flags and indexes.
@@ -61,13 +46,7 @@ fn answer(result: &Result) -> Answer {
     }
 }
 
-fn write(
-    job: &Job,
-    result: &Result,
-    vertices: &mut [f64],
-    flags: &mut [u8],
-    indexes: &mut [u32],
-) -> Answer {
+fn write(job: &Job, result: &Result, lent: Lent) -> Answer {
     let room = 2 * job.segments();
     let empty = Drawing::empty();
     let drawing = match result {
@@ -76,14 +55,14 @@ fn write(
         Result::Drawn(drawing) => drawing,
     };
     let mut drawn = drawing.vertices.as_flattened().iter().copied();
-    for place in &mut vertices[..3 * room] {
+    for place in &mut lent.vertices[..3 * room] {
         *place = drawn.next().unwrap_or(0.0);
     }
     let raised = (0..drawing.flags.len()).filter(|i| drawing.flags[*i]);
     let mut raised = raised.map(|i| i as u32);
     for i in 0..room {
-        flags[i] = drawing.flags.get(i).copied().unwrap_or(false).into();
-        indexes[i] = raised.next().unwrap_or(0);
+        lent.flags[i] = drawing.flags.get(i).copied().unwrap_or(false).into();
+        lent.indexes[i] = raised.next().unwrap_or(0);
     }
     answer(result)
 }
@@ -124,10 +103,7 @@ impl Trace {
         {
             return Result::Refused(4, 0);
         }
-        let source = Polyline {
-            vertices: job.source.chunks(3).map(vertex).collect(),
-            is_closed: job.closed,
-        };
+        let source = job.polyline();
         if self.equals(Site::ZeroOffset, job.offset, 0.0) {
             self.mark(Event::Copied);
             return Result::Drawn(Drawing {
@@ -190,8 +166,4 @@ impl Trace {
         }
         None
     }
-}
-
-fn vertex(n: &[f64]) -> PlineVertex {
-    PlineVertex::new(n[0], n[1], n[2])
 }

@@ -6,7 +6,7 @@
 
 use crate::{edges, jobs};
 use oracle::generate::{FAMILIES, Random, Steering};
-use oracle::stage::{BEFORE, Job, Outcome};
+use oracle::stage::{Job, Outcome};
 use oracle::text::bits;
 use oracle::traced::{Site, Table, Trace, job as traced_job};
 use std::fmt::Write;
@@ -52,10 +52,10 @@ pub fn write(folder: &Path) -> io::Result<()> {
     let mut output = String::new();
     for job in &rows {
         input.extend(packed(job));
-        output += &line(&worked(job, SHORT));
+        output += &line(&job.run_among(SHORT, oracle::job));
     }
     for job in long() {
-        output += &line(&worked(&job, LONG));
+        output += &line(&job.run_among(LONG, oracle::job));
     }
     fs::write(folder.join("stdin"), input)?;
     fs::write(folder.join("stdout"), output)
@@ -78,29 +78,8 @@ fn fits(job: &Job) -> bool {
     job.source.len() <= SOURCE && job.room.iter().zip(SHORT).all(|(room, most)| *room <= most)
 }
 
-/// The answer and all places, also those past what was lent.
-fn worked(job: &Job, places: [usize; 3]) -> Outcome {
-    let mut vertices = vec![BEFORE.0; places[0]];
-    let mut flags = vec![BEFORE.1; places[1]];
-    let mut indexes = vec![BEFORE.2; places[2]];
-    let answer = oracle::job(
-        &job.source,
-        job.closed,
-        job.offset,
-        job.eps,
-        &mut vertices[..job.room[0]],
-        &mut flags[..job.room[1]],
-        &mut indexes[..job.room[2]],
-    );
-    Outcome {
-        answer,
-        vertices: vertices.into_iter().map(f64::to_bits).collect(),
-        flags,
-        indexes,
-    }
-}
-
-/// The answer, then for each buffer what was drawn, if that is short, and a checksum.
+/// The answer, then for each buffer what was drawn, if that is short, and a checksum of all its
+/// places, also those past what was lent.
 fn line(outcome: &Outcome) -> String {
     let mut line = outcome.answer.map(|number| number.to_string()).join(" ");
     let (mut numbers, mut flags, mut indexes) = (Vec::new(), Vec::new(), Vec::new());
