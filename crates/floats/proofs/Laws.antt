@@ -158,8 +158,8 @@ twice-units x g = sym (mul-assoc (num x) (2 ^ 1075) 2) ∙ ap (λ (z : ℕ). z *
 units-squared : (x : Float) (g : OnGrid x) → units g * units g * (den x * den x) ≡ num x * num x * 2 ^ 2150
 units-squared x g = mul-mul-mul-comm (units g) (units g) (den x) (den x) ∙ ap (λ (z : ℕ). z * z) (sym (units-is x g)) ∙ mul-mul-mul-comm (num x) (2 ^ 1075) (num x) (2 ^ 1075)
 
-pub below-root : (x y : Float) → T (positive x) → T (fits binary64 x) → T (positive y) → T (fits binary64 y) → SquareLe x y → T (le x (sqrtOf y))
-below-root x y p f q k h =
+pub below-root : (x y : Float) → T (positive x) → T (fits binary64 x) → T (positive y) → SquareLe x y → T (le x (sqrtOf y))
+below-root x y p f q h =
     let g = on-grid x p f in
     let u = units g in
     let n = area y in
@@ -167,8 +167,8 @@ below-root x y p f q k h =
     subst (λ (z : Float). T (le x z)) (sym (sqrt-is y q))
     (round-at-least binary64 x (twiceRoot n) (2 ^ 1076) (positive→nonneg x p) f (pow-pos 1076) (le-trans (le-of-eq (twice-units x g)) (mul-le-mul-right (den x) (twice-reaches n u l))))
 
-pub above-root : (x y : Float) → T (positive x) → T (fits binary64 x) → T (positive y) → T (fits binary64 y) → LeSquare y x → T (le (sqrtOf y) x)
-above-root x y p f q k h =
+pub above-root : (x y : Float) → T (positive x) → T (fits binary64 x) → T (positive y) → LeSquare y x → T (le (sqrtOf y) x)
+above-root x y p f q h =
     let g = on-grid x p f in
     let u = units g in
     let n = area y in
@@ -193,8 +193,8 @@ up-of (fin s zero e) h = none
 up-of (fin true (suc m) e) h = absurd (no-zero m (up e) 1 (up-pos e) (pow-pos 0) (le-fin false 0 (pos 0) true (suc m) e h .1))
 up-of (fin false (suc m) e) h = some (lt→ltb 0 (suc m) (zero-lt-suc m))
 
-pub sqrt-mono-up : (x y : Float) → T (fits binary64 x) → T (fits binary64 y) → T (le (ofBits binary64 0) x) → T (le x y) → T (le (sqrtOf x) (sqrtOf y))
-sqrt-mono-up x y f k z h = go (up-of x z) (up-of y (le-through (ofBits binary64 0) x y z h)) h
+pub sqrt-mono-up : (x y : Float) → T (le (ofBits binary64 0) x) → T (le x y) → T (le (sqrtOf x) (sqrtOf y))
+sqrt-mono-up x y z h = go (up-of x z) (up-of y (le-through (ofBits binary64 0) x y z h)) h
   where
     not-zero : (s : Bool) (e : ℤ) → T (above (fin s 0 e)) → ⊥
     not-zero true e a = a

@@ -49,14 +49,14 @@ pub root-at-least : (x y : Float) → T (nonneg x) → T (fits binary64 x) → T
 root-at-least x y p s q t h =
     elim (zero-or-positive x p) [
       | inl z ↦ fractions→le x (sqrtOf y) p (root-nonneg y q t) (at-zero (num x * den (sqrtOf y)) (num (sqrtOf y) * den x) (ap (λ (k : ℕ). k * den (sqrtOf y)) z ∙ zero-mul (den (sqrtOf y))))
-      | inr X ↦ below-root x y X s (positive-by y q (not-under (num x * num x * den y) (num y) (den x * den x) (mul-pos (mul-pos (num-pos x X) (num-pos x X)) (den-pos y)) h)) t h
+      | inr X ↦ below-root x y X s (positive-by y q (not-under (num x * num x * den y) (num y) (den x * den x) (mul-pos (mul-pos (num-pos x X) (num-pos x X)) (den-pos y)) h)) h
     ]
 
-pub root-at-most : (x y : Float) → T (nonneg x) → T (fits binary64 x) → T (nonneg y) → T (fits binary64 y) → LeSquare y x → T (le (sqrtOf y) x)
-root-at-most x y p s q t h =
+pub root-at-most : (x y : Float) → T (nonneg x) → T (fits binary64 x) → T (nonneg y) → LeSquare y x → T (le (sqrtOf y) x)
+root-at-most x y p s q h =
     elim (zero-or-positive y q) [
       | inl z ↦ subst (λ (w : Float). T (le w x)) (sym (root-of-zero y q z)) (fractions→le y x q p (at-zero (num y * den x) (num x * den y) (ap (λ (k : ℕ). k * den x) z ∙ zero-mul (den x))))
-      | inr Y ↦ above-root x y (positive-by x p (not-under (num y * (den x * den x)) (num x) (num x * den y) (mul-pos (num-pos y Y) (mul-pos (den-pos x) (den-pos x))) (le-trans h (le-of-eq (mul-assoc (num x) (num x) (den y)))))) s Y t h
+      | inr Y ↦ above-root x y (positive-by x p (not-under (num y * (den x * den x)) (num x) (num x * den y) (mul-pos (num-pos y Y) (mul-pos (den-pos x) (den-pos x))) (le-trans h (le-of-eq (mul-assoc (num x) (num x) (den y)))))) s Y h
     ]
 
 -- ---- u ≤ √(2·u) for u up to 2
