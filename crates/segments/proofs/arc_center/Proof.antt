@@ -5,4 +5,4 @@ use Rattle.segments.proofs.arc_center.Tie as tie
 
 pub arc-center-spec : {M : Type 1} → statement M
 unfolding arcCenter
-arc-center-spec = tie.close (tie.spec (λ c κs. tt) (λ c κs. tt) (λ c κs. tt) (λ c κs. tt) (λ c κs. tt) (λ c. yes _ _ _ (cc) (cc)) (λ c κs. tt) (λ c. no _ _ _ (cc) (cc)))
+arc-center-spec = tie.close (tie.spec (λ c κs. tt) (λ c κs. tt) (λ c κs. tt) (λ c κs. tt) (λ c κs. tt) (λ c. yes _ _ _ (c .before .if1 .taken) (cc)) (λ c κs. tt) (λ c. no _ _ _ (c .before .if1 .left) (cc)))

@@ -5,4 +5,4 @@ use Rattle.walk.proofs.connector_move.Tie as tie
 
 pub connector-move-spec : {M : Type 1} → statement M
 unfolding connectorMove
-connector-move-spec = tie.close (tie.spec (λ c κs. tt) (λ c. cc))
+connector-move-spec = tie.close (tie.spec (λ c κs. tt) (λ c. simp (c .before .connector-is-invalid .ensures)))
