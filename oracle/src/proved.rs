@@ -1,23 +1,11 @@
 //! The proved code, called through its archive.
 
-use crate::stage::{Answer, Job, Lent};
+/// As the Rust caller declares it.
+#[path = "../../callers/rust/src/archive.rs"]
+mod archive;
 
-unsafe extern "C" {
-    fn blidrosk_raw_offset(
-        source: *const f64,
-        source_len: usize,
-        closed: bool,
-        offset: f64,
-        eps: f64,
-        vertices: *mut f64,
-        vertices_len: usize,
-        flags: *mut u8,
-        flags_len: usize,
-        indexes: *mut u32,
-        indexes_len: usize,
-        answer: *mut u32,
-    ) -> u32;
-}
+use crate::stage::{Answer, Job, Lent};
+use archive::blidrosk_raw_offset;
 
 /// An answer that no job has.
 const TORN: Answer = [u32::MAX; 5];
@@ -40,7 +28,7 @@ pub fn job(job: &Job, lent: Lent) -> Answer {
             lent.flags.len(),
             lent.indexes.as_mut_ptr(),
             lent.indexes.len(),
-            answer.as_mut_ptr(),
+            &mut answer,
         )
     };
     if number == answer[0] { answer } else { TORN }

@@ -14,8 +14,10 @@
 //! assert_eq!(drawing.indexes, [1]);
 //! ```
 
+mod archive;
 mod refusal;
 
+use archive::{Numbers, blidrosk_raw_offset};
 pub use refusal::{Bad, Refusal};
 
 /// The most vertices that a source may have.
@@ -32,28 +34,6 @@ pub struct Drawn {
 }
 
 pub type Answer = Result<Drawn, Refusal>;
-
-/// The numbers that the archive answers in: number, place, count of vertices, count of indexes,
-/// and 1 where the drawing is closed.
-type Numbers = [u32; 5];
-
-// SAFETY: the declaration is that of `callers/include/blidrosk.h`, where a caller's duties stand.
-unsafe extern "C" {
-    fn blidrosk_raw_offset(
-        source: *const f64,
-        source_len: usize,
-        closed: bool,
-        offset: f64,
-        eps: f64,
-        vertices: *mut f64,
-        vertices_len: usize,
-        flags: *mut u8,
-        flags_len: usize,
-        indexes: *mut u32,
-        indexes_len: usize,
-        answer: *mut Numbers,
-    ) -> u32;
-}
 
 /// Offsets a drawing into the three buffers, each of which needs [`room`] places; a place in
 /// `vertices` is three numbers.

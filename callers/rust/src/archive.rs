@@ -1,0 +1,22 @@
+//! The one function of the archive, as `callers/include/blidrosk.h` declares it; a caller's duties
+//! stand there.
+
+/// Number, place, count of vertices, count of indexes, and 1 where the drawing is closed.
+pub type Numbers = [u32; 5];
+
+unsafe extern "C" {
+    pub fn blidrosk_raw_offset(
+        source: *const f64,
+        source_len: usize,
+        closed: bool,
+        offset: f64,
+        eps: f64,
+        vertices: *mut f64,
+        vertices_len: usize,
+        flags: *mut u8,
+        flags_len: usize,
+        indexes: *mut u32,
+        indexes_len: usize,
+        answer: *mut Numbers,
+    ) -> u32;
+}
