@@ -116,34 +116,14 @@ fn print_indexes(indexes: &[u32], shown: usize) {
     print_sum(sum);
 }
 
-fn print_result(r: RawOffsetResult) {
-    print(b"0 0");
-    print_count(r.vertices as u64);
-    print_count(r.indexes as u64);
-    if r.closed {
-        print(b" 1");
-    } else {
-        print(b" 0");
-    }
-}
-
-fn print_refusal(number: u64, place: u32) {
-    let _written = io::print_decimal(1, number);
-    print_count(place as u64);
-    print(b" 0 0 0");
-}
-
 // 01's number and place, the two counts, and 1 for closed.
 fn print_answer(answer: RawOffsetAnswer) {
-    match answer {
-        RawOffsetAnswer::Done(r) => print_result(r),
-        RawOffsetAnswer::Ragged => print_refusal(1, 0),
-        RawOffsetAnswer::TooMany => print_refusal(2, 0),
-        RawOffsetAnswer::BadNumber(place) => print_refusal(3, place),
-        RawOffsetAnswer::NoRoom => print_refusal(4, 0),
-        RawOffsetAnswer::Repeated(place) => print_refusal(5, place),
-        RawOffsetAnswer::NotFinite => print_refusal(6, 0),
-    }
+    let r = answer.result();
+    let _written = io::print_decimal(1, answer.number() as u64);
+    print_count(answer.place() as u64);
+    print_count(r.vertices as u64);
+    print_count(r.indexes as u64);
+    print_count(r.closed as u64);
 }
 
 // An open drawing has a segment fewer than vertices.
@@ -159,10 +139,9 @@ fn segments_drawn(r: RawOffsetResult) -> u32 {
 
 // The drawing whose places are shown: none of a refusal or of a long one.
 fn shown(answer: RawOffsetAnswer) -> RawOffsetResult {
-    if let RawOffsetAnswer::Done(r) = answer {
-        if r.vertices <= MOST_SHOWN {
-            return r;
-        }
+    let r = answer.result();
+    if r.vertices <= MOST_SHOWN {
+        return r;
     }
     RawOffsetResult::empty()
 }

@@ -48,7 +48,7 @@ flat-source : (s : List Float) (v : ℕ) → 3 * v ≡ length s → flat (vertic
 unfolding flat
 flat-source s v h = flat-vertices flat refl (λ (w : PlineVertex) (ws : List PlineVertex). refl) s (omega arith)
 
-source-room : (closed : Bool) (v : ℕ) → 2 ≤ v → v ≤ 2 * segmentsOf closed v
+pub source-room : (closed : Bool) (v : ℕ) → 2 ≤ v → v ≤ 2 * segmentsOf closed v
 source-room true v h = rw (segments-closed v h) (omega arith)
 source-room false v h = rw (segments-open v h) (omega arith)
 

@@ -9,3 +9,4 @@ pub mod Went
 pub mod Output
 pub mod Demand3
 pub mod Assertions
+pub mod Fits

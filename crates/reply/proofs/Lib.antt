@@ -1,0 +1,4 @@
+pub mod Texts
+pub mod Decodings
+pub mod Never
+pub mod Samples

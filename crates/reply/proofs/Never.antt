@@ -1,0 +1,96 @@
+-- Which numbers `rawoffset` can print. A packed job has three numbers a vertex, at most 512 vertices, and room for all that they draw: Nos. 1, 2 and 4 never come, as
+-- answers (`never`) or as texts (`never-printed`). And the program may stop reading after 12307 bytes (`cut`). Assumes nothing.
+use mathlib.Core.Path.{_≡_, refl, sym, ap, _∙_}
+use mathlib.Core.Bool.{Bool, true, false}
+use mathlib.Core.List.{List}
+use Prim.Native.Nat.{ℕ, _+_, _*_, _/_, _%_, _≤_, _<_}
+use native.Mathlib.Omega.{arith}
+use borrow.Author.Tests.{leb-true, leb-false}
+use lib.Dec.{leb}
+use lib.ListN.{length, getD, take}
+use lib.Seq.{take-all, length-take-le}
+use Rattle.floats.specs.Choice.{pick}
+use Rattle.floats.proofs.Choice.{yes, no}
+use Rattle.refusals.proofs.First.{by-test}
+use Rattle.emission.specs.Buffers.{Buffers}
+use Rattle.raw_offset.specs.declared.RawOffsetAnswer.{RawOffsetAnswer}
+use Rattle.raw_offset.specs.declared.RawOffsetAnswer.the-variants.{Done, Ragged, TooMany, BadNumber, NoRoom, Repeated, NotFinite}
+use Rattle.raw_offset.specs.Job.{number, place, ending}
+use Rattle.raw_offset.specs.Rows.{Job, outcome, count, places, Given, Row4, Short, vertices, flags, indexes}
+use Rattle.raw_offset.proofs.Demand1.{demand-1}
+use Rattle.packed.specs.Packed.{wellFormed, countOf, closedOf, offsetOf, epsOf, sourceOf}
+use Rattle.packed.specs.Text.{placesOf, decimalOf, headOf, refusalOf, textOf}
+use Rattle.packed.proofs.Bytes.{length-numbers, sized, few}
+use Rattle.reply.specs.Reply.{blank, answerText, outcomeOf, replyOf}
+use Rattle.reply.proofs.Texts.{blankJob, segments-within}
+
+-- ---- as answers
+
+module _ (bytes : List ℕ) (well : wellFormed bytes ≡ true) where
+  abbrev job : Job
+  job = blankJob (sourceOf bytes) (closedOf bytes) (offsetOf bytes) (epsOf bytes)
+
+  numbers : length (sourceOf bytes) ≡ 3 * countOf bytes
+  unfolding sourceOf
+  numbers = length-numbers bytes (3 * countOf bytes)
+
+  -- a number that has no place
+  given : (n : ℕ) → (n ≡ 3 → ⊥) → (n ≡ 5 → ⊥) → number (outcome job .answer) ≡ n → Given job n 0
+  given n p q e = record { number = e; place = demand-1 job .placeless (λ z. p (sym e ∙ z)) (λ z. q (sym e ∙ z)) }
+
+  roomy : places job ≤ 1024
+  roomy = let m = segments-within (closedOf bytes) (length (sourceOf bytes) / 3) in omega (arith, numbers, few bytes well)
+
+  never-short : Short job → ⊥
+  never-short (vertices h) = omega (arith, roomy)
+  never-short (flags h) = omega (arith, roomy)
+  never-short (indexes h) = omega (arith, roomy)
+
+  pub never : (number (outcomeOf bytes .answer) ≡ 1 → ⊥) × (number (outcomeOf bytes .answer) ≡ 2 → ⊥) × (number (outcomeOf bytes .answer) ≡ 4 → ⊥)
+  unfolding outcomeOf
+  never =
+      (λ e. demand-1 job .one .0 (given 1 (λ z. omega arith) (λ z. omega arith) e) (omega (arith, numbers)),
+      λ e. let r = demand-1 job .two .0 (given 2 (λ z. omega arith) (λ z. omega arith) e) in omega (arith, r .many, numbers, few bytes well),
+      λ e. never-short (demand-1 job .four .0 (given 4 (λ z. omega arith) (λ z. omega arith) e) .short))
+
+-- ---- as texts
+
+-- the first byte is the number's digit
+digit : (a : RawOffsetAnswer) (b : Buffers) → getD (answerText (ending a b)) 0 0 ≡ 48 + number a
+unfolding answerText pick textOf headOf refusalOf decimalOf placesOf
+digit (Done r) b = refl
+digit Ragged b = refl
+digit TooMany b = refl
+digit (BadNumber k) b = refl
+digit NoRoom b = refl
+digit (Repeated k) b = refl
+digit NotFinite b = refl
+
+first : (bytes : List ℕ) (well : Bool) → wellFormed bytes ≡ well → (n : ℕ) → n < 7 → (wellFormed bytes ≡ true → number (outcomeOf bytes .answer) ≡ n → ⊥) → getD (replyOf bytes) 0 0 ≡ 48 + n → ⊥
+unfolding replyOf pick refusalOf decimalOf placesOf
+first bytes true w n s never e =
+    let d = digit (outcomeOf bytes .answer) (outcomeOf bytes .buffers) in
+    let f = rw w at e in
+    never w (omega arith)
+first bytes false w n s never e = let f = rw w at e in omega arith
+
+pub never-printed : (bytes : List ℕ) → (getD (replyOf bytes) 0 0 ≡ 48 + 1 → ⊥) × (getD (replyOf bytes) 0 0 ≡ 48 + 2 → ⊥) × (getD (replyOf bytes) 0 0 ≡ 48 + 4 → ⊥)
+never-printed bytes =
+    (first bytes _ refl 1 (omega arith) (λ w. never bytes w .0),
+    first bytes _ refl 2 (omega arith) (λ w. never bytes w .1),
+    first bytes _ refl 4 (omega arith) (λ w. never bytes w .2))
+
+-- ---- where the program stops reading
+
+-- a well formed job has at most 12306 bytes
+long : (bytes : List ℕ) → 12306 < length bytes → wellFormed bytes ≡ false
+long bytes h = by-test (wellFormed bytes) (λ (w : wellFormed bytes ≡ true). absurd (omega (arith, sized bytes w, few bytes w))) (λ (w : wellFormed bytes ≡ false). w)
+
+pub cut : (bytes : List ℕ) → replyOf (take 12307 bytes) ≡ replyOf bytes
+unfolding replyOf
+cut bytes =
+    by-test (leb (length bytes) 12307) (λ (e : leb (length bytes) 12307 ≡ true). ap replyOf (take-all 12307 bytes (leb-true _ _ e)))
+    (λ (e : leb (length bytes) 12307 ≡ false).
+    let h = leb-false (length bytes) 12307 e in
+    let n = length-take-le 12307 bytes (omega arith) in
+    sym (no _ _ _ (long (take 12307 bytes) (omega arith)) refl) ∙ no _ _ _ (long bytes (omega arith)) refl)

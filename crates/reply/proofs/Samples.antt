@@ -1,0 +1,63 @@
+-- Samples, by computation of the definitions: 01 §5's program on the bytes of the sixth row, and a job for each number that it can refuse by, but No. 6. Assumes nothing.
+use mathlib.Core.Path.{_≡_, refl}
+use mathlib.Core.List.{List, [], _∷_, _++_}
+use Prim.Native.Nat.{ℕ}
+use lib.ListN.{replicate}
+use Rattle.raw_offset.proofs.PRows as Rows
+use Rattle.packed.specs.Text.{ascii}
+use Rattle.packed.proofs.Samples as Packed
+use Rattle.packed.proofs.Samples.{word}
+use Rattle.reply.specs.Reply.{answerText, outcomeOf, replyOf}
+
+-- all that the samples look through
+unfoldable opened : Unit {0}
+unfolding Rows.opened Packed.opened answerText outcomeOf replyOf
+opened = tt
+
+-- the first 16 bits, the offset, ε = 1e-5, and the numbers of the vertices
+abbrev packedJob : ℕ → ℕ → List ℕ → List ℕ → List ℕ
+packedJob a b offset numbers = a ∷ b ∷ offset ++ (0x3e ∷ 0xe4 ∷ 0xf8 ∷ 0xb5 ∷ 0x88 ∷ 0xe3 ∷ 0x68 ∷ 0xf1 ∷ numbers)
+
+abbrev nought : List ℕ
+nought = word 0 0
+
+abbrev one : List ℕ
+one = word 0x3f 0xf0
+
+abbrev two : List ℕ
+two = word 0x40 0x00
+
+abbrev four : List ℕ
+four = word 0x40 0x10
+
+-- an infinity
+abbrev endless : List ℕ
+endless = word 0x7f 0xf0
+
+-- (0,0)(4,0)
+abbrev line : List ℕ
+line = nought ++ nought ++ nought ++ four ++ nought ++ nought
+
+pub sixth-row :
+    replyOf (packedJob 0 3 two (line ++ four ++ one ++ nought))
+    ≡ ascii "0 4 open\n"
+    ++ ascii "0000000000000000 4000000000000000 0000000000000000 .\n"
+    ++ ascii "4010000000000000 4000000000000000 0000000000000000 !\n"
+    ++ ascii "4000000000000000 0000000000000000 0000000000000000 .\n"
+    ++ ascii "4000000000000000 3ff0000000000000 0000000000000000 -\n"
+unfolding opened
+sixth-row = refl
+
+-- No. 3 at the second vertex, and at the offset; No. 5 at the second vertex; and no job: a byte more, a zero bit, 513 vertices, nothing at all
+pub refusals :
+    replyOf (packedJob 0 2 one (nought ++ nought ++ nought ++ endless ++ nought ++ nought))
+    ∷ replyOf (packedJob 0 2 endless line)
+    ∷ replyOf (packedJob 0 3 one (line ++ four ++ nought ++ nought))
+    ∷ replyOf (packedJob 0 2 one (line ++ 0 ∷ []))
+    ∷ replyOf (packedJob 0x10 2 one line)
+    ∷ replyOf (packedJob 2 1 one (replicate 12312 0))
+    ∷ replyOf []
+    ∷ []
+    ≡ ascii "3 1\n" ∷ ascii "3 2\n" ∷ ascii "5 1\n" ∷ ascii "7 0\n" ∷ ascii "7 0\n" ∷ ascii "7 0\n" ∷ ascii "7 0\n" ∷ []
+unfolding opened
+refusals = refl

@@ -1,0 +1,53 @@
+-- What the code's two texts are of a job: the drawing, where it is done, and else the refusal. A packed job never has more than 1024 vertices to print. Assumes nothing.
+use mathlib.Core.Path.{_≡_, refl, sym, ap, _∙_}
+use mathlib.Core.Bool.{Bool, true, false}
+use mathlib.Core.List.{List}
+use Prim.Native.Nat.{ℕ, _*_, _/_, _≤_}
+use native.Mathlib.Omega.{arith}
+use borrow.Author.Tests.{ltb-true, ltb-false, eq-eqb, ne-eqb}
+use lib.Dec.{ltb}
+use lib.ListN.{length}
+use lib.Ieee.{Float}
+use Rattle.floats.proofs.Choice.{yes, no}
+use Rattle.refusals.specs.Source.{segmentsOf}
+use Rattle.refusals.proofs.First.{by-test}
+use Rattle.refusals.proofs.Segments.{segments-none, segments-most}
+use Rattle.emission.specs.declared.RawOffsetResult.{RawOffsetResult}
+use Rattle.emission.specs.Buffers.{Buffers}
+use Rattle.raw_offset.specs.declared.RawOffsetAnswer.{RawOffsetAnswer}
+use Rattle.raw_offset.specs.Job.{Outcome, number, place, result, ending, jobOf}
+use Rattle.raw_offset.specs.Rows.{Job, outcome, places}
+use Rattle.raw_offset.proofs.Fits.{vertices-fit}
+use Rattle.packed.specs.Text.{refusalOf, textOf, printedOf}
+use Rattle.packed.proofs.Lines.{printed-text}
+use Rattle.reply.specs.Reply.{blank, answerText}
+
+pub segments-within : (closed : Bool) (v : ℕ) → segmentsOf closed v ≤ v
+segments-within closed v =
+    by-test (ltb v 2) (λ (e : ltb v 2 ≡ true). rw (segments-none closed v (ltb-true v 2 e)) (omega arith))
+    (λ (e : ltb v 2 ≡ false). segments-most closed v (ltb-false v 2 e))
+
+-- the job over blank buffers
+abbrev pub blankJob : List Float → Bool → Float → Float → Job
+blankJob s closed offset ε = record { source = s; closed = closed; offset = offset; eps = ε; buffers = blank }
+
+module _ (s : List Float) (closed : Bool) (offset ε : Float) where
+  pub few-printed : length s ≤ 1536 → result (jobOf s closed offset ε blank .answer) .vertices ≤ 1024
+  few-printed h =
+      let f = vertices-fit (blankJob s closed offset ε) in
+      let m = segments-within closed (length s / 3) in
+      omega arith
+
+  module _ {a : RawOffsetAnswer} {b : Buffers} (ends : ending a b ≡ jobOf s closed offset ε blank) {n : ℕ} (numbered : n ≡ number a) where
+    pub done-text : length s ≤ 1536 → n ≡ 0 → {r : RawOffsetResult} → r ≡ result a
+        → answerText (jobOf s closed offset ε blank) ≡ printedOf (r .vertices) (r .closed) (b .vertices) (b .flags)
+    unfolding answerText
+    done-text h z {r} e =
+        let few : r .vertices ≤ 1024 = rw (e, ap (λ (o : Outcome). o .answer) ends) (few-printed h) in
+        sym (yes _ _ _ (eq-eqb _ _ (ap (λ (o : Outcome). number (o .answer)) (sym ends) ∙ sym numbered ∙ z)) (sym (printed-text _ _ _ _ few) ∙ rw (← ends, e)))
+
+    pub refusal-text : (n ≡ 0 → ⊥) → {k : ℕ} → k ≡ place a → answerText (jobOf s closed offset ε blank) ≡ refusalOf n k
+    unfolding answerText
+    refusal-text z {k} e =
+        let not-done : number (jobOf s closed offset ε blank .answer) ≡ 0 → ⊥ = λ q. z (numbered ∙ ap (λ (o : Outcome). number (o .answer)) ends ∙ q) in
+        sym (no _ _ _ (ne-eqb _ _ not-done) (rw (← ends, ← numbered, ← e)))
