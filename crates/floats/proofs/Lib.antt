@@ -2,6 +2,7 @@ pub mod Choice
 pub mod Same
 pub mod Cleared
 pub mod Values
+pub mod Constants
 pub mod Whole
 pub mod Closest
 pub mod Fit

@@ -1,5 +1,6 @@
--- 000's four debug assertions as facts about the walk of any job whose numbers are good (Nos. 1 to 3 do not refuse it), in 000's order; the two on nearness are for
--- finite points. Assumes nothing.
+-- 000's debug assertions as facts about the walk of any job whose numbers are good (Nos. 1 to 3 do not refuse it), in 000's order; the two on nearness are for finite
+-- points. The first of the four, that the polyline is empty where its first vertex is added, asks for no fact: here that call makes the pen, and none is there before it.
+-- Assumes nothing.
 use mathlib.Core.Path.{_≡_, refl, sym, _∙_}
 use mathlib.Core.List.{List, [], _∷_, _++_, map, append-assoc, List·Memᴰ}
 use mathlib.Core.Bool.{Bool, true, false, not, true≢false}
@@ -22,7 +23,6 @@ use Rattle.refusals.proofs.NumberRow.{number-nowhere}
 use Rattle.emission.specs.declared.Move.{Move}
 use Rattle.emission.specs.Moves as M
 use Rattle.emission.specs.Drawing.{Drawing, kept, lastPoint}
-use Rattle.emission.specs.Steps.{penAt}
 use Rattle.emission.specs.Sound.{segmentCount}
 use Rattle.emission.proofs.Near.{near-finite}
 use Rattle.emission.proofs.Drawn.{emitted-end}
@@ -52,11 +52,6 @@ module _ (j : Job) (numbers : Numbers j) where
       let n = number-nowhere (verticesOf (j .source)) (j .offset) (j .eps) .1 (numbers .good) in
       let f : not (goodEps (j .eps)) ≡ false = last-fails 0 (bad ++ not (goodOffset (j .offset)) ∷ []) (not (goodEps (j .eps))) (rw (append-assoc bad (not (goodOffset (j .offset)) ∷ []) (not (goodEps (j .eps)) ∷ [])) n) in
       eps-above (j .eps) (by-test (goodEps (j .eps)) (λ t. t) (λ t. absurd (true≢false (sym (not-fails (goodEps (j .eps)) .1 t) ∙ f))))
-
-  -- ---- add_first: the polyline is empty
-
-  pub polyline-empty : (p : Vector2) → (penAt p .kept ≡ 0) × (penAt p .marked ≡ 0)
-  polyline-empty p = (refl, refl)
 
   module _ (p : Vector2) (ms : List Move) (walk : WalkOf j p ms) where
     -- ---- emit_source_span: the last vertex is near the span's start, which is the walk's start for the first span, and else where the connector before it ended

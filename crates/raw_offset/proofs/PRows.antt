@@ -2,9 +2,9 @@
 use mathlib.Core.Path.{_≡_, refl}
 use mathlib.Core.List.{List, [], _∷_, _++_, map}
 use mathlib.Core.Bool.{Bool, true, false}
-use Prim.Native.Nat.{ℕ, _+_, _*_, _-_}
+use Prim.Native.Nat.{ℕ, _+_, _*_, _-_, _^_}
 use lib.ListN.{length, replicate}
-use lib.Ieee.{Float, binary64, ofBits, neg, add, sub, mul, div, lt, le, eq}
+use lib.Ieee.{Float, binary64, ofBits, round, neg, add, sub, mul, div, lt, le, eq}
 use Rattle.floats.specs.Binary64.{zero, one, two, four, eight}
 use Rattle.floats.specs.Choice.{pick, _and_, _or_}
 use Rattle.floats.specs.Size.{absOf, within, finite}
@@ -45,6 +45,10 @@ pub record Row : Type 0 where
 
 abbrev pub eps : Float
 eps = ofBits binary64 0x3ee4_f8b5_88e3_68f1
+
+eps-nearest : eps ≡ round binary64 false 1 (10 ^ 5)
+unfolding ofBits round
+eps-nearest = refl
 
 abbrev pub minusOne : Float
 minusOne = ofBits binary64 0xbff0_0000_0000_0000

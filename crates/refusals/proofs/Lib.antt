@@ -4,6 +4,7 @@ pub mod Tests
 pub mod Joined
 pub mod Segments
 pub mod Numbers
+pub mod Decimals
 pub mod Bad
 pub mod NumberRow
 pub mod RepeatedRow

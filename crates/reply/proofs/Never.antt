@@ -48,10 +48,11 @@ module _ (bytes : List ℕ) (well : wellFormed bytes ≡ true) where
 
   pub never : (number (outcomeOf bytes .answer) ≡ 1 → ⊥) × (number (outcomeOf bytes .answer) ≡ 2 → ⊥) × (number (outcomeOf bytes .answer) ≡ 4 → ⊥)
   unfolding outcomeOf
-  never =
-      (λ e. demand-1 job .one .0 (given 1 (λ z. omega arith) (λ z. omega arith) e) (omega (arith, numbers)),
-      λ e. let r = demand-1 job .two .0 (given 2 (λ z. omega arith) (λ z. omega arith) e) in omega (arith, r .many, numbers, few bytes well),
-      λ e. never-short (demand-1 job .four .0 (given 4 (λ z. omega arith) (λ z. omega arith) e) .short))
+  never = (
+    λ e. demand-1 job .one .0 (given 1 (λ z. omega arith) (λ z. omega arith) e) (omega (arith, numbers)),
+    λ e. let r = demand-1 job .two .0 (given 2 (λ z. omega arith) (λ z. omega arith) e) in omega (arith, r .many, numbers, few bytes well),
+    λ e. never-short (demand-1 job .four .0 (given 4 (λ z. omega arith) (λ z. omega arith) e) .short),
+  )
 
 -- ---- as texts
 
@@ -75,10 +76,11 @@ first bytes true w n s never e =
 first bytes false w n s never e = let f = rw w at e in omega arith
 
 pub never-printed : (bytes : List ℕ) → (getD (replyOf bytes) 0 0 ≡ 48 + 1 → ⊥) × (getD (replyOf bytes) 0 0 ≡ 48 + 2 → ⊥) × (getD (replyOf bytes) 0 0 ≡ 48 + 4 → ⊥)
-never-printed bytes =
-    (first bytes _ refl 1 (omega arith) (λ w. never bytes w .0),
-    first bytes _ refl 2 (omega arith) (λ w. never bytes w .1),
-    first bytes _ refl 4 (omega arith) (λ w. never bytes w .2))
+never-printed bytes = (
+  first bytes _ refl 1 (omega arith) (λ w. never bytes w .0),
+  first bytes _ refl 2 (omega arith) (λ w. never bytes w .1),
+  first bytes _ refl 4 (omega arith) (λ w. never bytes w .2),
+)
 
 -- ---- where the program stops reading
 
