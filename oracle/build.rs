@@ -47,8 +47,7 @@ fn link(folder: &Path, name: &str) {
         println!("cargo::rustc-link-search=native={}", folder.display());
         println!("cargo::rustc-link-lib=static={name}");
     } else {
-        println!(
-            "cargo::error=target/native/lib{name}.a is missing: oracle/README.md says how to make it"
-        );
+        println!("cargo::error=there is no target/native/lib{name}.a");
+        println!("cargo::error=at the repository's top, run `tools/archive {name}`, which makes it");
     }
 }
