@@ -7,7 +7,9 @@ fn main() {
     println!("cargo::rerun-if-changed={}", archive.display());
     if !archive.is_file() {
         println!("cargo::error=there is no target/native/liblayers.a");
-        println!("cargo::error=at the repository's top, run `tools/archive layers`, which makes it");
+        println!(
+            "cargo::error=at the repository's top, run `tools/archive layers`, which makes it"
+        );
         return;
     }
     println!("cargo::rustc-link-search=native={}", folder.display());
