@@ -6,8 +6,10 @@ fn main() {
     let archive = folder.join("liblayers.a");
     println!("cargo::rerun-if-changed={}", archive.display());
     if !archive.is_file() {
-        println!("cargo::error=target/native/liblayers.a is missing");
-        println!("cargo::error=run ../shared/tools/native-archive layers at the repository's top");
+        println!("cargo::error=there is no target/native/liblayers.a");
+        println!(
+            "cargo::error=at the repository's top, run `tools/archive layers`, which makes it"
+        );
         return;
     }
     println!("cargo::rustc-link-search=native={}", folder.display());

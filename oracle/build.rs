@@ -1,10 +1,16 @@
-//! Finds 000 and hands it, unchanged, to the compiler. Where it is not there, the build says so
-//! and goes on without `cfg(with_000)`.
+//! Finds 000, tests that it is 000, and hands it, unchanged, to the compiler. Where it is not there,
+//! the build says so and goes on without `cfg(with_000)`; another file stops it.
+
+#[path = "sha256.rs"]
+mod sha256;
 
 use std::path::{Path, PathBuf};
 use std::{env, fs};
 
 const BESIDE: &str = "../../shared/docs/src/src/polyline/internal/raw_pline_offset.rs";
+
+/// 000's SHA-256.
+const SUM: &str = "f6082bfc8939cbac0390db0994fad57dc4803211df9d88d3359763681b3c89cb";
 
 fn main() {
     println!("cargo::rustc-check-cfg=cfg(with_000)");
@@ -32,9 +38,16 @@ fn main() {
 
 /// Copies 000 to the build's own folder and writes the one line that makes it a module.
 fn include_000(source: &Path) {
+    let text = fs::read(source).expect("000 can be read");
+    let sum = sha256::sha256(&text);
+    if sum != SUM {
+        println!("cargo::error={} is not 000", source.display());
+        println!("cargo::error=its SHA-256 is {sum}, and 000's is {SUM}");
+        return;
+    }
     let out = PathBuf::from(env::var_os("OUT_DIR").expect("cargo names the build folder"));
     let copy = out.join("raw_pline_offset.rs");
-    fs::copy(source, &copy).expect("000 can be copied");
+    fs::write(&copy, text).expect("000 can be copied");
     let line = format!("#[path = {copy:?}]\npub mod raw_pline_offset;\n");
     fs::write(out.join("internal.rs"), line).expect("the build folder can be written");
 }
@@ -47,8 +60,9 @@ fn link(folder: &Path, name: &str) {
         println!("cargo::rustc-link-search=native={}", folder.display());
         println!("cargo::rustc-link-lib=static={name}");
     } else {
+        println!("cargo::error=there is no target/native/lib{name}.a");
         println!(
-            "cargo::error=target/native/lib{name}.a is missing: oracle/README.md says how to make it"
+            "cargo::error=at the repository's top, run `tools/archive {name}`, which makes it"
         );
     }
 }

@@ -1,6 +1,9 @@
 //! A job as one value, its whole outcome as another, and what can work the one into the other.
 
+mod before;
+
 use crate::polyline::{PlineVertex, Polyline};
+pub use before::Before;
 
 /// Number, place, vertices, indexes, closed mark.
 pub type Answer = [u32; 5];
@@ -22,8 +25,8 @@ pub struct Job {
 /// How many places more than a job needs are lent, unless it says otherwise.
 pub const SPARE: usize = 1;
 
-/// What stands in the lent places before a job.
-pub const BEFORE: (f64, u8, u32) = (-7.25, 0xa5, 0xdead_beef);
+/// How many places past those that are lent the comparison looks at.
+const BEYOND: usize = 3;
 
 impl Job {
     /// A job that is lent the places it needs and `SPARE` more of each kind.
@@ -70,7 +73,27 @@ impl Job {
 
     /// Runs with buffers of so many places, of which the job is lent the first.
     pub fn run_among(&self, places: [usize; 3], stage: Stage) -> Outcome {
-        let mut buffers = Buffers::of(places);
+        self.run_over(Before::MARKS, places, stage)
+    }
+
+    /// Runs as the comparison does: over a pattern of the job's own, with places past what is lent.
+    pub fn run_compared(&self, stage: Stage) -> Outcome {
+        self.run_over(self.before(), self.room.map(|lent| lent + BEYOND), stage)
+    }
+
+    /// The pattern that the comparison lends: by all bits of the job, so that a job that is printed
+    /// and read again gets the same.
+    pub fn before(&self) -> Before {
+        let numbers = [self.offset, self.eps];
+        let numbers = numbers.iter().chain(&self.source);
+        let mixed = numbers.fold(u64::from(self.closed), |mixed, number| {
+            (mixed.rotate_left(5) ^ number.to_bits()).wrapping_mul(0x9e37_79b9_7f4a_7c15)
+        });
+        Before::pattern((mixed >> 32) as usize % Before::PATTERNS)
+    }
+
+    pub fn run_over(&self, before: Before, places: [usize; 3], stage: Stage) -> Outcome {
+        let mut buffers = Buffers::over(before, places);
         let answer = stage(self, buffers.lend(self.room));
         Outcome {
             answer,
@@ -88,6 +111,17 @@ pub struct Lent<'a> {
     pub indexes: &'a mut [u32],
 }
 
+impl Lent<'_> {
+    /// The same places, lent on.
+    pub fn on(&mut self) -> Lent<'_> {
+        Lent {
+            vertices: self.vertices,
+            flags: self.flags,
+            indexes: self.indexes,
+        }
+    }
+}
+
 /// Places to lend.
 pub struct Buffers {
     vertices: Vec<f64>,
@@ -96,11 +130,16 @@ pub struct Buffers {
 }
 
 impl Buffers {
-    pub fn of([numbers, flags, indexes]: [usize; 3]) -> Self {
+    pub fn of(places: [usize; 3]) -> Self {
+        Self::over(Before::MARKS, places)
+    }
+
+    pub fn over(before: Before, [numbers, flags, indexes]: [usize; 3]) -> Self {
+        let number = |place| f64::from_bits(before.number(place));
         Self {
-            vertices: vec![BEFORE.0; numbers],
-            flags: vec![BEFORE.1; flags],
-            indexes: vec![BEFORE.2; indexes],
+            vertices: (0..numbers).map(number).collect(),
+            flags: (0..flags).map(|place| before.flag(place)).collect(),
+            indexes: (0..indexes).map(|place| before.index(place)).collect(),
         }
     }
 
@@ -124,6 +163,32 @@ pub struct Outcome {
 }
 
 impl Outcome {
+    /// An answer that leaves so many places of each kind as they were.
+    pub fn untouched(answer: Answer, before: Before, places: [usize; 3]) -> Self {
+        let [numbers, flags, indexes] = places;
+        Self {
+            answer,
+            vertices: (0..numbers).map(|place| before.number(place)).collect(),
+            flags: (0..flags).map(|place| before.flag(place)).collect(),
+            indexes: (0..indexes).map(|place| before.index(place)).collect(),
+        }
+    }
+
+    /// Whether each place that the job may not touch holds what it held: all of them after Nos. 1
+    /// to 5 and without a segment, otherwise those from 2n on.
+    pub fn keeps(&self, job: &Job, before: Before) -> bool {
+        let set = match self.answer[0] {
+            1..=5 => 0,
+            _ => 2 * job.segments(),
+        };
+        let mut numbers = self.vertices.iter().enumerate().skip(3 * set);
+        let mut flags = self.flags.iter().enumerate().skip(set);
+        let mut indexes = self.indexes.iter().enumerate().skip(set);
+        numbers.all(|(place, bits)| *bits == before.number(place))
+            && flags.all(|(place, flag)| *flag == before.flag(place))
+            && indexes.all(|(place, index)| *index == before.index(place))
+    }
+
     /// The drawn vertices, as numbers.
     pub fn drawn(&self) -> Vec<[f64; 3]> {
         let count = self.answer[2] as usize;

@@ -1,5 +1,5 @@
 //! Jobs and outcomes as rows of text: words parted by one space, numbers as their 64 bits in
-//! sixteen hexadecimal digits. Any NaN is written 7ff8000000000000.
+//! sixteen hexadecimal digits. In an outcome any NaN is written 7ff8000000000000.
 //!
 //! A job: `closed offset eps v x y bulge ..`, closed being 0 or 1. Where its list is ragged, or it is
 //! lent other places than it needs and one more, `room numbers flags indexes` comes first, and the
@@ -10,7 +10,11 @@ use crate::stage::{Job, Outcome};
 use std::fmt::Write;
 
 pub fn bits(number: f64) -> String {
-    let number = if number.is_nan() { f64::NAN } else { number };
+    exact(if number.is_nan() { f64::NAN } else { number })
+}
+
+/// A NaN too is written as it is.
+fn exact(number: f64) -> String {
     format!("{:016x}", number.to_bits())
 }
 
@@ -30,11 +34,11 @@ fn row_of(job: &Job, count: usize) -> String {
     let mut row = format!(
         "{} {} {} {count}",
         u8::from(job.closed),
-        bits(job.offset),
-        bits(job.eps),
+        exact(job.offset),
+        exact(job.eps),
     );
     for number in &job.source {
-        write!(row, " {}", bits(*number)).expect("a string takes all");
+        write!(row, " {}", exact(*number)).expect("a string takes all");
     }
     row
 }

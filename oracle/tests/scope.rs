@@ -2,7 +2,7 @@
 #![cfg(with_000)]
 
 use oracle::job;
-use oracle::stage::{BEFORE, Job, Outcome};
+use oracle::stage::{Before, Job, Outcome};
 
 const EPS: f64 = 1e-5;
 
@@ -26,19 +26,6 @@ fn square(offset: f64) -> Job {
 /// The whole outcome of a done job: the drawing, zeros up to 2n, and untouched places from there.
 fn done(job: &Job, drawn: &[[f64; 3]], invalid: &[u32], closed: bool) -> Outcome {
     let room = 2 * job.segments();
-    let mut vertices = vec![BEFORE.0.to_bits(); job.room[0]];
-    let mut flags = vec![BEFORE.1; job.room[1]];
-    let mut indexes = vec![BEFORE.2; job.room[2]];
-    vertices[..3 * room].fill(0);
-    flags[..room].fill(0);
-    indexes[..room].fill(0);
-    for (place, number) in vertices.iter_mut().zip(drawn.as_flattened()) {
-        *place = number.to_bits();
-    }
-    for (place, index) in indexes.iter_mut().zip(invalid) {
-        *place = *index;
-        flags[*index as usize] = 1;
-    }
     let answer = [
         0,
         0,
@@ -46,22 +33,23 @@ fn done(job: &Job, drawn: &[[f64; 3]], invalid: &[u32], closed: bool) -> Outcome
         invalid.len() as u32,
         closed.into(),
     ];
-    Outcome {
-        answer,
-        vertices,
-        flags,
-        indexes,
+    let mut outcome = Outcome::untouched(answer, Before::MARKS, job.room);
+    outcome.vertices[..3 * room].fill(0);
+    outcome.flags[..room].fill(0);
+    outcome.indexes[..room].fill(0);
+    for (place, number) in outcome.vertices.iter_mut().zip(drawn.as_flattened()) {
+        *place = number.to_bits();
     }
+    for (place, index) in outcome.indexes.iter_mut().zip(invalid) {
+        *place = *index;
+        outcome.flags[*index as usize] = 1;
+    }
+    outcome
 }
 
 /// The whole outcome of a refusal that changes nothing.
 fn refused(job: &Job, number: u32, place: u32) -> Outcome {
-    Outcome {
-        answer: [number, place, 0, 0, 0],
-        vertices: vec![BEFORE.0.to_bits(); job.room[0]],
-        flags: vec![BEFORE.1; job.room[1]],
-        indexes: vec![BEFORE.2; job.room[2]],
-    }
+    Outcome::untouched([number, place, 0, 0, 0], Before::MARKS, job.room)
 }
 
 fn outcome(job: &Job) -> Outcome {

@@ -434,6 +434,24 @@ fn odd(random: &mut Random) -> Job {
     job
 }
 
+/// The job with a NaN for one of its numbers: of either sign, signalling or not, with any payload.
+pub fn with_a_nan(random: &mut Random, job: &Job) -> Job {
+    let mut job = job.clone();
+    let slot = random.below(job.source.len() + 2);
+    let number = match slot {
+        0 => &mut job.offset,
+        1 => &mut job.eps,
+        _ => &mut job.source[slot - 2],
+    };
+    let any = random.bits() >> 13;
+    let payload = random.pick(&[1, (1 << 51) - 1, any]);
+    let quiet = random.one_in(2) || payload == 0;
+    let sign = random.one_in(2);
+    let top = u64::from(sign) << 63 | 0x7ff << 52 | u64::from(quiet) << 51;
+    *number = f64::from_bits(top | payload);
+    job
+}
+
 /// A good job with something broken.
 fn damaged(random: &mut Random) -> Job {
     let mut job = FAMILIES[random.below(FAMILIES.len() - 2)].1(random);

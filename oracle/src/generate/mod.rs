@@ -6,7 +6,7 @@ mod grid;
 mod random;
 mod steer;
 
-pub use families::{FAMILIES, Family};
+pub use families::{FAMILIES, Family, with_a_nan};
 pub use grid::each_short_job;
 pub use random::Random;
 pub use steer::Steering;

@@ -1,15 +1,23 @@
 //! The jobs in turn, each with the name of its family.
 
-use oracle::generate::{FAMILIES, Random, Steering, each_short_job};
+use oracle::generate::{FAMILIES, Random, Steering, each_short_job, with_a_nan};
 use oracle::stage::Job;
 
-/// Hands out the jobs of the grid and `random` random ones.
+/// One in so many random jobs is handed out again with a NaN in it.
+const PER_NAN: u64 = 20;
+
+/// Hands out the jobs of the grid and `random` random ones, some of them with a NaN as well.
 pub fn each_plain_job(seed: u64, random: u64, mut take: impl FnMut(&'static str, &Job)) {
     each_short_job(|job| take("grid", &job));
     let mut source = Random::new(seed);
+    let mut nans = Random::new(seed.rotate_left(32));
     for i in 0..random {
         let (name, family) = FAMILIES[i as usize % FAMILIES.len()];
-        take(name, &family(&mut source));
+        let job = family(&mut source);
+        take(name, &job);
+        if i % PER_NAN == 0 {
+            take("with a NaN", &with_a_nan(&mut nans, &job));
+        }
     }
 }
 

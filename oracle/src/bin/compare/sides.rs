@@ -2,7 +2,7 @@
 
 #[cfg(feature = "proved")]
 use crate::jobs::each_plain_job;
-use oracle::stage::{Job, Outcome, Stage};
+use oracle::stage::{Before, Job, Outcome, Stage};
 use oracle::text::{any_job_row, outcome_row, read_job};
 use std::io::stdin;
 
@@ -26,23 +26,35 @@ const NUMBERS: usize = 7;
 pub struct Tally {
     /// For each family, how many jobs were answered with each number.
     families: Vec<(&'static str, [u64; NUMBERS])>,
+    /// For each number, which patterns the buffers held before a job that it answers.
+    lent: [[bool; Before::PATTERNS]; NUMBERS],
     pub jobs: u64,
     pub differing: u64,
 }
 
 impl Tally {
-    /// Runs a job on 000 and on each of the sides.
+    /// Runs a job on 000 and on each of the sides. What no side may touch is held to what it was
+    /// too, so that 000's own run can change nothing there.
     pub fn hold(&mut self, family: &'static str, job: &Job, sides: &[(&str, Stage)]) {
-        let expected = job.run(oracle::job);
-        self.count(family, expected.answer[0] as usize);
+        let expected = job.run_compared(oracle::job);
+        let number = expected.answer[0] as usize;
+        self.count(family, number);
+        self.lent[number][job.before().which()] = true;
+        if !expected.keeps(job, job.before()) {
+            self.differ("000 changes a place that stays", job, &expected, &expected);
+        }
         for (name, side) in sides {
-            let outcome = job.run(*side);
+            let outcome = job.run_compared(*side);
             if outcome != expected {
-                self.differing += 1;
-                if self.differing <= SHOWN {
-                    show(name, job, &expected, &outcome);
-                }
+                self.differ(&format!("{name} differs"), job, &expected, &outcome);
             }
+        }
+    }
+
+    fn differ(&mut self, what: &str, job: &Job, expected: &Outcome, outcome: &Outcome) {
+        self.differing += 1;
+        if self.differing <= SHOWN {
+            show(what, job, expected, outcome);
         }
     }
 
@@ -67,6 +79,10 @@ impl Tally {
             }
         }
         print_counts("all", &all);
+        let lent = self.lent.map(|some| some.iter().filter(|l| **l).count());
+        let lent = lent.map(|count| format!(" {count}")).concat();
+        let of = Before::PATTERNS;
+        println!("patterns lent, of {of}, to jobs answered 0, 1, .. 6:{lent}");
     }
 
     pub fn print_end(&self) {
@@ -79,8 +95,8 @@ fn print_counts(name: &str, counts: &[u64; NUMBERS]) {
     println!("  {name:30} {:>10} {numbers}", counts.iter().sum::<u64>());
 }
 
-fn show(name: &str, job: &Job, expected: &Outcome, outcome: &Outcome) {
-    println!("{name} differs: {job:?}");
+fn show(what: &str, job: &Job, expected: &Outcome, outcome: &Outcome) {
+    println!("{what}: {job:?}");
     println!("  job  {}", any_job_row(job));
     println!("  000  {expected:?}");
     println!("  here {outcome:?}");
