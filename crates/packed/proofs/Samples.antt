@@ -36,14 +36,16 @@ nan = 0x7ff8_0000_0000_0000
 abbrev pub corners : List Float
 corners = numbers (0 ∷ two ∷ 0 ∷ four ∷ two ∷ 0 ∷ two ∷ 0 ∷ 0 ∷ two ∷ one ∷ 0 ∷ one ∷ one ∷ one ∷ [])
 
--- 01 §5: the sixth row
-pub sixth-row :
-    printedOf 4 false corners (0 ∷ 1 ∷ 0 ∷ 0 ∷ [])
-    ≡ ascii "0 4 open\n"
+-- 01 §5: the sixth row, as it is printed
+abbrev pub sixthText : List ℕ
+sixthText =
+    ascii "0 4 open\n"
     ++ ascii "0000000000000000 4000000000000000 0000000000000000 .\n"
     ++ ascii "4010000000000000 4000000000000000 0000000000000000 !\n"
     ++ ascii "4000000000000000 0000000000000000 0000000000000000 .\n"
     ++ ascii "4000000000000000 3ff0000000000000 0000000000000000 -\n"
+
+pub sixth-row : printedOf 4 false corners (0 ∷ 1 ∷ 0 ∷ 0 ∷ []) ≡ sixthText
 unfolding opened
 sixth-row = refl
 

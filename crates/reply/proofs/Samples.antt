@@ -6,7 +6,7 @@ use lib.ListN.{replicate}
 use Rattle.raw_offset.proofs.PRows as Rows
 use Rattle.packed.specs.Text.{ascii}
 use Rattle.packed.proofs.Samples as Packed
-use Rattle.packed.proofs.Samples.{word}
+use Rattle.packed.proofs.Samples.{word, sixthText}
 use Rattle.reply.specs.Reply.{answerText, outcomeOf, replyOf}
 
 -- all that the samples look through
@@ -38,13 +38,7 @@ endless = word 0x7f 0xf0
 abbrev line : List ℕ
 line = nought ++ nought ++ nought ++ four ++ nought ++ nought
 
-pub sixth-row :
-    replyOf (packedJob 0 3 two (line ++ four ++ one ++ nought))
-    ≡ ascii "0 4 open\n"
-    ++ ascii "0000000000000000 4000000000000000 0000000000000000 .\n"
-    ++ ascii "4010000000000000 4000000000000000 0000000000000000 !\n"
-    ++ ascii "4000000000000000 0000000000000000 0000000000000000 .\n"
-    ++ ascii "4000000000000000 3ff0000000000000 0000000000000000 -\n"
+pub sixth-row : replyOf (packedJob 0 3 two (line ++ four ++ one ++ nought)) ≡ sixthText
 unfolding opened
 sixth-row = refl
 
