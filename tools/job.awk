@@ -73,7 +73,7 @@ function refusal() {
 
 # count(): what a done answer has; the first twelve invalid segments are named
 function count(    i, segments, invalid, list) {
-    if (place == 0) return "empty: nothing is left"
+    if (place == 0) return "empty, nothing is left"
     for (i = 0; i < place; i++) {
         if (mark[i] != "-") segments++
         if (mark[i] != "!") continue

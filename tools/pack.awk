@@ -32,8 +32,9 @@ BEGIN { offset = bits("0"); eps = bits("1e-5") }
 
 $1 == "open" || $1 == "closed" {
     if (NF > 1) fail("'" $1 "' stands alone on its line")
-    if ("open" in given || "closed" in given) once("open" in given ? "open" : "closed")
     once($1)
+    other = $1 == "open" ? "closed" : "open"
+    if (other in given) fail("'" $1 "', and line " given[other] " says '" other "'")
     next
 }
 

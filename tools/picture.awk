@@ -1,6 +1,7 @@
 # The picture of a job and its answer, as SVG on standard output; NAME in the environment is its title. The source is
 # grey, the offset blue, an invalid segment red and dashed; a refused job shows its source and the refusal. One
-# drawing unit is 'scale' pixels, and y is turned, since it runs down in SVG.
+# drawing unit is 'scale' pixels, and y is turned, since it runs down in SVG. A drawing of many vertices is made
+# larger, with lines, dots and numbers of half the size ('pen').
 
 # some awks have no square root
 function root(x,    k, y, i) {
@@ -91,10 +92,10 @@ function number_of(i,    j, mx, my, l, side) {
     j = (i + 1) % place
     l = distance(ox[i], oy[i], ox[j], oy[j])
     if (l == 0) return
-    side = value(offset) < 0 ? -11 / l : 11 / l
+    side = (value(offset) < 0 ? -11 : 11) * pen / l
     mx = across(middle_x(ox[i], oy[i], ox[j], oy[j], ob[i])) - (oy[j] - oy[i]) * side
     my = down(middle_y(ox[i], oy[i], ox[j], oy[j], ob[i])) - (ox[j] - ox[i]) * side
-    words(mx, my + 4, mark[i] == "!" ? " fill=\"#c62828\" font-weight=\"bold\"" : "", i)
+    words(mx, my + 4 * pen, mark[i] == "!" ? " fill=\"#c62828\" font-weight=\"bold\"" : "", i)
 }
 
 # the way in which the source runs: an arrow at a quarter of its first segment
@@ -104,8 +105,8 @@ function arrow(    hx, hy, b, l, ax, ay, mx, my) {
     b = sb[0] / (1 + root(1 + sb[0] * sb[0]))
     l = distance(sx[0], sy[0], hx, hy)
     if (l == 0) return
-    ax = (hx - sx[0]) / l
-    ay = (sy[0] - hy) / l
+    ax = (hx - sx[0]) / l * pen
+    ay = (sy[0] - hy) / l * pen
     mx = across(middle_x(sx[0], sy[0], hx, hy, b))
     my = down(middle_y(sx[0], sy[0], hx, hy, b))
     printf "<path d=\"M%s %s L%s %s L%s %s Z\" fill=\"#888888\"/>\n", px(mx + 7 * ax), px(my + 7 * ay), \
@@ -141,9 +142,10 @@ function measure(    i) {
     if (closed && v > 1) grow_segment(sx[v - 1], sy[v - 1], sx[0], sy[0], sb[v - 1])
     for (i = 0; i < drawn; i++)
         if (mark[i] != "-") grow_segment(ox[i], oy[i], ox[(i + 1) % drawn], oy[(i + 1) % drawn], ob[i])
+    pen = v > 100 || drawn > 100 ? 0.5 : 1
     scale = 0
-    if (max_x > min_x) scale = 560 / (max_x - min_x)
-    if (max_y > min_y && (scale == 0 || (max_y - min_y) * scale > 400)) scale = 400 / (max_y - min_y)
+    if (max_x > min_x) scale = 560 / pen / (max_x - min_x)
+    if (max_y > min_y && (scale == 0 || (max_y - min_y) * scale > 400 / pen)) scale = 400 / pen / (max_y - min_y)
     drawing_width = (max_x - min_x) * scale
     drawing_height = (max_y - min_y) * scale
 }
@@ -152,15 +154,15 @@ function draw_source(    i, d) {
     d = "M" at(sx[0], sy[0])
     for (i = 0; i + 1 < v; i++) d = d stroke(sx[i], sy[i], sx[i + 1], sy[i + 1], sb[i])
     if (closed && v > 1) d = d stroke(sx[v - 1], sy[v - 1], sx[0], sy[0], sb[v - 1]) " Z"
-    printf "<g stroke=\"#888888\" stroke-width=\"2\" fill=\"%s\">\n<path d=\"%s\"/>\n</g>\n", closed ? "#f5f5f5" : "none", d
+    printf "<path d=\"%s\" stroke=\"#888888\" stroke-width=\"%s\" fill=\"%s\"/>\n", d, px(2 * pen), closed ? "#f5f5f5" : "none"
     if (v > 1) arrow()
     print "<g fill=\"#888888\">"
-    for (i = 0; i < v; i++) dot(sx[i], sy[i], v > 100 ? 1.5 : 3)
+    for (i = 0; i < v; i++) dot(sx[i], sy[i], 3 * pen)
     print "</g>"
 }
 
-# draw_segments(INVALID): the valid segments or the invalid ones, those that follow each other as one path
-function draw_segments(invalid,    i, j, d, drawing) {
+# draw_segments(INVALID, STYLE): the valid segments or the invalid ones, those that follow each other in one stroke
+function draw_segments(invalid, style,    i, j, d, drawing) {
     for (i = 0; i < drawn; i++) {
         if (mark[i] == "-" || (mark[i] == "!") != invalid) { drawing = 0; continue }
         j = (i + 1) % drawn
@@ -168,21 +170,20 @@ function draw_segments(invalid,    i, j, d, drawing) {
         d = d stroke(ox[i], oy[i], ox[j], oy[j], ob[i])
         drawing = 1
     }
-    if (d != "") printf "<path d=\"%s\"/>\n", d
+    if (d != "") printf "<path d=\"%s\" %s stroke-linejoin=\"round\" fill=\"none\"/>\n", d, style
 }
 
+function valid_style(k) { return "stroke=\"#1565c0\" stroke-width=\"" px(2.5 * k) "\"" }
+function invalid_style(k) { return "stroke=\"#c62828\" stroke-width=\"" px(3 * k) "\" stroke-dasharray=\"" px(8 * k) " " px(5 * k) "\"" }
+
 function draw_offset(    i) {
-    print "<g stroke=\"#1565c0\" stroke-width=\"2.5\" stroke-linejoin=\"round\" fill=\"none\">"
-    draw_segments(0)
-    print "</g>"
-    print "<g stroke=\"#c62828\" stroke-width=\"3\" stroke-dasharray=\"8 5\" fill=\"none\">"
-    draw_segments(1)
-    print "</g>"
+    draw_segments(0, valid_style(pen))
     print "<g fill=\"#1565c0\">"
-    for (i = 0; i < drawn; i++) dot(ox[i], oy[i], drawn > 100 ? 1.5 : 3.5)
+    for (i = 0; i < drawn; i++) dot(ox[i], oy[i], 3.5 * pen)
     print "</g>"
-    print "<g fill=\"#1565c0\" font-size=\"11\" text-anchor=\"middle\">"
-    for (i = 0; i < drawn; i++) if (mark[i] == "!" || (mark[i] == "." && drawn <= 60)) number_of(i)
+    draw_segments(1, invalid_style(pen))
+    print "<g fill=\"#1565c0\" font-size=\"" px(11 * pen) "\" text-anchor=\"middle\">"
+    for (i = 0; i < drawn; i++) if (mark[i] == "!" || (mark[i] == "." && drawn <= 100)) number_of(i)
     print "</g>"
 }
 
@@ -203,8 +204,8 @@ function sample(x, style, text) {
 
 function draw_legend() {
     sample(24, "stroke=\"#888888\" stroke-width=\"2\"", "source")
-    if (drawn > 0) sample(124, "stroke=\"#1565c0\" stroke-width=\"2.5\"", "offset")
-    if (has_invalid()) sample(218, "stroke=\"#c62828\" stroke-width=\"3\" stroke-dasharray=\"8 5\"", "invalid segment")
+    if (drawn > 0) sample(124, valid_style(1), "offset")
+    if (has_invalid()) sample(218, invalid_style(1), "invalid segment")
 }
 
 function has_invalid(    i) {
