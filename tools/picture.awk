@@ -3,9 +3,9 @@
 # drawing unit is 'scale' pixels, and y is turned, since it runs down in SVG. A drawing of many vertices is made
 # larger, with lines, dots and numbers of half the size ('pen').
 
-# some awks have no square root
+# some awks have no square root; 0 where there is none or x is infinite
 function root(x,    k, y, i) {
-    if (x <= 0) return 0
+    if (!(x > 0 && x <= 1.7976931348623157e308)) return 0
     k = 1
     while (x >= 4) { x /= 4; k *= 2 }
     while (x < 1) { x *= 4; k /= 2 }
@@ -115,11 +115,11 @@ function arrow(    hx, hy, b, l, ax, ay, mx, my) {
 
 # ---- what is drawn
 
-# the source can be drawn where it has a vertex and its numbers are no NaN, not infinite and not beyond reason
+# the source can be drawn where it has a vertex and its numbers are no NaN and at most 1e30 in size: their squares are finite
 function take_source(    i) {
     if (v == 0 || number == 7) return 0
     for (i = 0; i < v; i++) {
-        if (!within(x_of(i), -1e99, 1e99) || !within(y_of(i), -1e99, 1e99) || !within(bulge_of(i), -1e99, 1e99)) return 0
+        if (!within(x_of(i), -1e30, 1e30) || !within(y_of(i), -1e30, 1e30) || !within(bulge_of(i), -1e30, 1e30)) return 0
         sx[i] = value(x_of(i))
         sy[i] = value(y_of(i))
         sb[i] = value(bulge_of(i))
