@@ -1,0 +1,66 @@
+# A job in text, to the bytes of the packed job as octal escapes. What cannot be read is told with its line.
+
+function fail(why) {
+    printf "pack: line %d: %s\n", NR, why > "/dev/stderr"
+    failed = 1
+    exit 2
+}
+
+function once(word) {
+    if (word in given) fail("a second '" word "'; the first is on line " given[word])
+    given[word] = NR
+}
+
+function number(word,    double) {
+    double = bits(word)
+    if (double == "") fail("'" word "' is not a number")
+    return double
+}
+
+function escaped(digits,    i, s) {
+    for (i = 1; i < length(digits); i += 2) s = s sprintf("\\%03o", hex(substr(digits, i, 2)))
+    return s
+}
+
+BEGIN { offset = bits("0"); eps = bits("1e-5") }
+
+{ sub(/\r$/, "") }
+
+/^[ \t]*(#|$)/ { next }
+
+{ lines++ }
+
+$1 == "open" || $1 == "closed" {
+    if (NF > 1) fail("'" $1 "' stands alone on its line")
+    once($1)
+    other = $1 == "open" ? "closed" : "open"
+    if (other in given) fail("'" $1 "', and line " given[other] " says '" other "'")
+    next
+}
+
+$1 == "offset" || $1 == "eps" {
+    if (NF != 2) fail("'" $1 "' takes one number")
+    once($1)
+    if ($1 == "offset") offset = number($2)
+    else eps = number($2)
+    next
+}
+
+$1 ~ /^[A-Za-z_]/ && bits($1) == "" { fail("unknown word '" $1 "'") }
+
+NF != 2 && NF != 3 { fail("a vertex is 'x y' or 'x y bulge', and this line has " NF (NF == 1 ? " number" : " numbers")) }
+
+{
+    vertices++
+    if (vertices > 512) fail("more than 512 vertices")
+    source = source escaped(number($1) number($2) (NF == 3 ? number($3) : bits("0")))
+}
+
+END {
+    if (failed) exit 2
+    if (!lines) {
+        print "pack: the text has no line of a job" > "/dev/stderr"
+        exit 2
+    }
+    print escaped(sprintf("%04x", ("closed" in given) * 32768 + vertices) offset eps) source
+}

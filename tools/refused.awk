@@ -1,0 +1,2 @@
+# A refusal in words.
+END { print "rawoffset: refused, number " number ": " refusal() }
