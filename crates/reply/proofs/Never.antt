@@ -3,6 +3,7 @@
 use mathlib.Core.Path.{_≡_, refl, sym, ap, _∙_}
 use mathlib.Core.Bool.{Bool, true, false}
 use mathlib.Core.List.{List}
+use Prim.Native.Char.{code}
 use Prim.Native.Nat.{ℕ, _+_, _*_, _/_, _%_, _≤_, _<_}
 use native.Mathlib.Omega.{arith}
 use borrow.Author.Tests.{leb-true, leb-false}
@@ -57,7 +58,7 @@ module _ (bytes : List ℕ) (well : wellFormed bytes ≡ true) where
 -- ---- as texts
 
 -- the first byte is the number's digit
-digit : (a : RawOffsetAnswer) (b : Buffers) → getD (answerText (ending a b)) 0 0 ≡ 48 + number a
+digit : (a : RawOffsetAnswer) (b : Buffers) → getD (answerText (ending a b)) 0 0 ≡ code "0" + number a
 unfolding answerText pick textOf headOf refusalOf decimalOf placesOf
 digit (Done r) b = refl
 digit Ragged b = refl
@@ -67,7 +68,10 @@ digit NoRoom b = refl
 digit (Repeated k) b = refl
 digit NotFinite b = refl
 
-first : (bytes : List ℕ) (well : Bool) → wellFormed bytes ≡ well → (n : ℕ) → n < 7 → (wellFormed bytes ≡ true → number (outcomeOf bytes .answer) ≡ n → ⊥) → getD (replyOf bytes) 0 0 ≡ 48 + n → ⊥
+abbrev pub firstByte : List ℕ → ℕ
+firstByte bytes = getD (replyOf bytes) 0 0
+
+first : (bytes : List ℕ) (well : Bool) → wellFormed bytes ≡ well → (n : ℕ) → n < 7 → (wellFormed bytes ≡ true → number (outcomeOf bytes .answer) ≡ n → ⊥) → firstByte bytes ≡ code "0" + n → ⊥
 unfolding replyOf pick refusalOf decimalOf placesOf
 first bytes true w n s never e =
     let d = digit (outcomeOf bytes .answer) (outcomeOf bytes .buffers) in
@@ -75,7 +79,7 @@ first bytes true w n s never e =
     never w (omega arith)
 first bytes false w n s never e = let f = rw w at e in omega arith
 
-pub never-printed : (bytes : List ℕ) → (getD (replyOf bytes) 0 0 ≡ 48 + 1 → ⊥) × (getD (replyOf bytes) 0 0 ≡ 48 + 2 → ⊥) × (getD (replyOf bytes) 0 0 ≡ 48 + 4 → ⊥)
+pub never-printed : (bytes : List ℕ) → (firstByte bytes ≡ code "1" → ⊥) × (firstByte bytes ≡ code "2" → ⊥) × (firstByte bytes ≡ code "4" → ⊥)
 never-printed bytes = (
   first bytes _ refl 1 (omega arith) (λ w. never bytes w .0),
   first bytes _ refl 2 (omega arith) (λ w. never bytes w .1),
