@@ -1,2 +1,3 @@
 pub mod Candidates
 pub mod Samples
+pub mod Nearer
