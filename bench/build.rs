@@ -1,4 +1,5 @@
 //! Links the proved functions of the crate `layers`, which stand in a static archive.
+use std::env;
 use std::path::Path;
 
 fn main() {
@@ -14,4 +15,9 @@ fn main() {
     }
     println!("cargo::rustc-link-search=native={}", folder.display());
     println!("cargo::rustc-link-lib=static=layers");
+    let jobs = env::var_os("CARGO_FEATURE_JOBS").is_some();
+    if jobs && env::var_os("DEP_RAW_PLINE_OFFSET_FOUND").is_none() {
+        println!("cargo::error=whole jobs are timed against 000, which is not there");
+        println!("cargo::error=name the path of raw_pline_offset.rs in BLIDROSK_000");
+    }
 }

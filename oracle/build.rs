@@ -21,6 +21,7 @@ fn main() {
     if source.is_file() {
         include_000(&source);
         println!("cargo::rustc-cfg=with_000");
+        println!("cargo::metadata=found={}", source.display());
     } else {
         println!(
             "cargo::warning=000 is not at {}: name its path in BLIDROSK_000",
