@@ -38,7 +38,7 @@ past-counts s closed offset ε old h k q = whole-way (record { source = s; close
 -- ---- from No. 4 on. The code has n segments, and the answer t of its test of the room.
 
 pub few-places : (closed : Bool) (v : ℕ) (s : List Float) {n : ℕ} → Counted v s → n ≡ segmentsOf closed v → 2 * n ≤ 8192
-few-places closed v s k h = let m = segments-most closed v (k .two) in omega arith
+few-places closed v s k h = let m = segments-most closed v in omega (arith, k .most)
 
 module _ (s : List Float) (closed : Bool) (v : ℕ) (old : Buffers) (n : ℕ) (t : Bool)
     (h : n ≡ segmentsOf closed v) (r : t ≡ (leb (2 * n) (length (old .vertices) / 3) and (leb (2 * n) (length (old .flags)) and leb (2 * n) (length (old .indexes))))) where

@@ -1,10 +1,8 @@
 -- No answer has more vertices than the room asked for, 2n. Assumes nothing.
-use mathlib.Core.Path.{_≡_}
-use Prim.Native.Nat.{ℕ, _≤_}
+use Prim.Native.Nat.{_≤_}
 use native.Mathlib.Omega.{arith}
 use Rattle.refusals.specs.Source.{verticesOf}
 use Rattle.refusals.proofs.Source.{length-vertices}
-use Rattle.walk.specs.Walk.{drawingOf}
 use Rattle.walk.proofs.Lengths.{drawing-fits}
 use Rattle.raw_offset.specs.Job.{result, done, copied}
 use Rattle.raw_offset.specs.Rows.{Job, outcome, places}

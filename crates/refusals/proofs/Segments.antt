@@ -30,9 +30,13 @@ pub segments-none : (closed : Bool) (v : ℕ) → v < 2 → segmentsOf closed v 
 unfolding segmentsOf pick
 segments-none closed v h = rw (lt-ltb v 2 h)
 
-pub segments-most : (closed : Bool) (v : ℕ) → 2 ≤ v → segmentsOf closed v ≤ v
-segments-most true v h = rw (segments-closed v h) (omega arith)
-segments-most false v h = rw (segments-open v h) (omega arith)
+pub segments-most : (closed : Bool) (v : ℕ) → segmentsOf closed v ≤ v
+segments-most closed v =
+    by-test (ltb v 2) (λ (e : ltb v 2 ≡ true). rw (segments-none closed v (ltb-true v 2 e)) (omega arith)) (λ (e : ltb v 2 ≡ false). two closed (ltb-false v 2 e))
+  where
+    two : (closed : Bool) → 2 ≤ v → segmentsOf closed v ≤ v
+    two true h = rw (segments-closed v h) (omega arith)
+    two false h = rw (segments-open v h) (omega arith)
 
 next-on : (v k : ℕ) → k + 1 < v → nextOf v k ≡ k + 1
 unfolding nextOf pick

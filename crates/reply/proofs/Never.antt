@@ -4,26 +4,27 @@ use mathlib.Core.Path.{_≡_, refl, sym, ap, _∙_}
 use mathlib.Core.Bool.{Bool, true, false}
 use mathlib.Core.List.{List}
 use Prim.Native.Char.{code}
-use Prim.Native.Nat.{ℕ, _+_, _*_, _/_, _%_, _≤_, _<_}
+use Prim.Native.Nat.{ℕ, _+_, _*_, _/_, _≤_, _<_}
 use native.Mathlib.Omega.{arith}
 use borrow.Author.Tests.{leb-true, leb-false}
 use lib.Dec.{leb}
 use lib.ListN.{length, getD, take}
 use lib.Seq.{take-all, length-take-le}
 use Rattle.floats.specs.Choice.{pick}
-use Rattle.floats.proofs.Choice.{yes, no}
+use Rattle.floats.proofs.Choice.{no}
 use Rattle.refusals.proofs.First.{by-test}
+use Rattle.refusals.proofs.Segments.{segments-most}
 use Rattle.emission.specs.Buffers.{Buffers}
 use Rattle.raw_offset.specs.declared.RawOffsetAnswer.{RawOffsetAnswer}
 use Rattle.raw_offset.specs.declared.RawOffsetAnswer.the-variants.{Done, Ragged, TooMany, BadNumber, NoRoom, Repeated, NotFinite}
 use Rattle.raw_offset.specs.Job.{number, place, ending}
-use Rattle.raw_offset.specs.Rows.{Job, outcome, count, places, Given, Row4, Short, vertices, flags, indexes}
+use Rattle.raw_offset.specs.Rows.{Job, outcome, places, Given, Short, vertices, flags, indexes}
 use Rattle.raw_offset.proofs.Demand1.{demand-1}
 use Rattle.packed.specs.Packed.{wellFormed, countOf, closedOf, offsetOf, epsOf, sourceOf}
 use Rattle.packed.specs.Text.{placesOf, decimalOf, headOf, refusalOf, textOf}
 use Rattle.packed.proofs.Bytes.{length-numbers, sized, few}
-use Rattle.reply.specs.Reply.{blank, answerText, outcomeOf, replyOf}
-use Rattle.reply.proofs.Texts.{blankJob, segments-within}
+use Rattle.reply.specs.Reply.{answerText, outcomeOf, replyOf}
+use Rattle.reply.proofs.Texts.{blankJob}
 
 -- ---- as answers
 
@@ -40,7 +41,7 @@ module _ (bytes : List ℕ) (well : wellFormed bytes ≡ true) where
   given n p q e = record { number = e; place = demand-1 job .placeless (λ z. p (sym e ∙ z)) (λ z. q (sym e ∙ z)) }
 
   roomy : places job ≤ 1024
-  roomy = let m = segments-within (closedOf bytes) (length (sourceOf bytes) / 3) in omega (arith, numbers, few bytes well)
+  roomy = let m = segments-most (closedOf bytes) (length (sourceOf bytes) / 3) in omega (arith, numbers, few bytes well)
 
   never-short : Short job → ⊥
   never-short (vertices h) = omega (arith, roomy)

@@ -1,31 +1,23 @@
 -- What the code's two texts are of a job: the drawing, where it is done, and else the refusal. A packed job never has more than 1024 vertices to print. Assumes nothing.
-use mathlib.Core.Path.{_≡_, refl, sym, ap, _∙_}
-use mathlib.Core.Bool.{Bool, true, false}
+use mathlib.Core.Path.{_≡_, sym, ap, _∙_}
+use mathlib.Core.Bool.{Bool}
 use mathlib.Core.List.{List}
-use Prim.Native.Nat.{ℕ, _*_, _/_, _≤_}
+use Prim.Native.Nat.{ℕ, _/_, _≤_}
 use native.Mathlib.Omega.{arith}
-use borrow.Author.Tests.{ltb-true, ltb-false, eq-eqb, ne-eqb}
-use lib.Dec.{ltb}
+use borrow.Author.Tests.{eq-eqb, ne-eqb}
 use lib.ListN.{length}
 use lib.Ieee.{Float}
 use Rattle.floats.proofs.Choice.{yes, no}
-use Rattle.refusals.specs.Source.{segmentsOf}
-use Rattle.refusals.proofs.First.{by-test}
-use Rattle.refusals.proofs.Segments.{segments-none, segments-most}
+use Rattle.refusals.proofs.Segments.{segments-most}
 use Rattle.emission.specs.declared.RawOffsetResult.{RawOffsetResult}
 use Rattle.emission.specs.Buffers.{Buffers}
 use Rattle.raw_offset.specs.declared.RawOffsetAnswer.{RawOffsetAnswer}
 use Rattle.raw_offset.specs.Job.{Outcome, number, place, result, ending, jobOf}
-use Rattle.raw_offset.specs.Rows.{Job, outcome, places}
+use Rattle.raw_offset.specs.Rows.{Job}
 use Rattle.raw_offset.proofs.Fits.{vertices-fit}
-use Rattle.packed.specs.Text.{refusalOf, textOf, printedOf}
+use Rattle.packed.specs.Text.{refusalOf, printedOf}
 use Rattle.packed.proofs.Lines.{printed-text}
 use Rattle.reply.specs.Reply.{blank, answerText}
-
-pub segments-within : (closed : Bool) (v : ℕ) → segmentsOf closed v ≤ v
-segments-within closed v =
-    by-test (ltb v 2) (λ (e : ltb v 2 ≡ true). rw (segments-none closed v (ltb-true v 2 e)) (omega arith))
-    (λ (e : ltb v 2 ≡ false). segments-most closed v (ltb-false v 2 e))
 
 -- the job over blank buffers
 abbrev pub blankJob : List Float → Bool → Float → Float → Job
@@ -35,7 +27,7 @@ module _ (s : List Float) (closed : Bool) (offset ε : Float) where
   pub few-printed : length s ≤ 1536 → result (jobOf s closed offset ε blank .answer) .vertices ≤ 1024
   few-printed h =
       let f = vertices-fit (blankJob s closed offset ε) in
-      let m = segments-within closed (length s / 3) in
+      let m = segments-most closed (length s / 3) in
       omega arith
 
   module _ {a : RawOffsetAnswer} {b : Buffers} (ends : ending a b ≡ jobOf s closed offset ε blank) {n : ℕ} (numbered : n ≡ number a) where

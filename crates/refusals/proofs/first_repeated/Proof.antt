@@ -17,7 +17,7 @@ abbrev μ-loop : tie.MeasureT-loop
 μ-loop source v closed eps n k₀ k = n - k
 
 loop-holds : tie.Need-loop-holds Inv-loop μ-loop
-loop-holds c = (c .segment-count .ensures, rw (c .segment-count .ensures) (segments-most _ _ (c .before .before .pre .0)), refl)
+loop-holds c = (c .segment-count .ensures, rw (c .segment-count .ensures) (segments-most _ _), refl)
 
 next-place-requires : tie.Need-next-place-requires Inv-loop μ-loop
 next-place-requires c κs = omega arith
