@@ -23,6 +23,8 @@ fn main() {
         println!("cargo::rustc-cfg=with_000");
         println!("cargo::metadata=found={}", source.display());
     } else {
+        // never there: so the next build looks again, also where 000 comes with an old date
+        println!("cargo::rerun-if-changed=without_000");
         println!(
             "cargo::warning=000 is not at {}: name its path in BLIDROSK_000",
             source.display()
