@@ -1,5 +1,7 @@
 //! The proved functions, and what the programs here share.
 
+pub mod drawings;
+
 unsafe extern "C" {
     /// The proved square root. Any number may be handed to it.
     safe fn layers_sqrt(x: f64) -> f64;

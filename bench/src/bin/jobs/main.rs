@@ -5,9 +5,7 @@
 //! `proved` and `000` work the whole job: refusals, the offset, the lent buffers. `walk` is 000's own
 //! `create_raw_offset`, on a polyline that stands ready, into lists of its own. `atans` is how many
 //! arc tangents a vertex takes, on all sides alike.
-mod drawings;
-
-use drawings::{Shape, ARCS, LINES, MIXED};
+use bench::drawings::{Kind, Shape, EPS, KINDS};
 use oracle::polyline::internal::raw_pline_offset::create_raw_offset;
 use oracle::polyline::Polyline;
 use oracle::stage::{Buffers, Job, Outcome, Stage};
@@ -51,6 +49,10 @@ fn time(run: impl FnOnce()) -> f64 {
     start.elapsed().as_nanos() as f64
 }
 
+fn job_of(shape: &Shape, v: usize, side: f64) -> Job {
+    Job::new(shape.closed, side * shape.offset, EPS, shape.source(v))
+}
+
 /// Stops where the two sides differ, or the job is refused.
 fn checked(job: &Job) -> Outcome {
     let outcome = job.run(oracle::proved::job);
@@ -70,17 +72,18 @@ fn atans(job: &Job) -> f64 {
     asked.count() as f64 / (job.source.len() / 3) as f64
 }
 
-fn table(kind: &str, shapes: &[Shape], turns: usize) {
+fn table((kind, shapes): Kind, turns: usize) {
     println!(
         "{kind}, v = {MOST}: ns a vertex  flagged atans  proved     000    walk   /000  /walk"
     );
     let mut sums = [0.0; 3];
     for shape in shapes {
         for side in [1.0, -1.0] {
-            let job = shape.job(MOST, side);
+            let job = job_of(shape, MOST, side);
             let flagged = checked(&job).answer[3];
             let times = least(&job, turns);
-            let (title, atans) = (shape.title(side), atans(&job));
+            let title = format!("{} {} {:+}", shape.name, shape.ends(), job.offset);
+            let atans = atans(&job);
             show(&format!("{title:<28} {flagged:>5} {atans:>5.2}"), times);
             for (sum, time) in sums.iter_mut().zip(times) {
                 *sum += time / (2 * shapes.len()) as f64;
@@ -99,13 +102,14 @@ fn show(name: &str, [proved, plain, walk]: [f64; 3]) {
 }
 
 /// The time against the count of vertices.
-fn growth(kind: &str, shape: &Shape, turns: usize) {
+fn growth((kind, shapes): Kind, turns: usize) {
+    let shape = &shapes[4];
     println!(
         "{kind}, {}: v, ns a vertex      proved     000    walk   /000  /walk",
         shape.name
     );
     for v in (4..=12).map(|power| 1 << power) {
-        let job = shape.job(v, 1.0);
+        let job = job_of(shape, v, 1.0);
         checked(&job);
         show(&format!("{v:<24}"), least(&job, turns * MOST / v));
     }
@@ -120,9 +124,10 @@ fn main() {
     });
     // From here on the allocator keeps what 000's lists give back: new pages are not in its times.
     drop(black_box(vec![1_u8; 24 << 20]));
-    table("lines", LINES, turns);
-    table("arcs", ARCS, turns);
-    table("mixed", MIXED, turns);
-    growth("lines", &LINES[4], turns / 4);
-    growth("arcs", &ARCS[4], turns / 4);
+    for kind in KINDS {
+        table(kind, turns);
+    }
+    for kind in KINDS {
+        growth(kind, turns / 4);
+    }
 }

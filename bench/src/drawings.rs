@@ -1,40 +1,39 @@
-//! The drawings, by kind. Each is drawn with a power of two of vertices, from 4 on, and offset to both
-//! sides.
-use oracle::stage::Job;
+//! The drawings, by kind. Each can be drawn with 4, 8, 16, .. vertices, and is offset to both sides.
 use std::f64::consts::{FRAC_PI_4, FRAC_PI_8, SQRT_2, TAU};
 
-const EPS: f64 = 1e-5;
+/// The tolerance of every job.
+pub const EPS: f64 = 1e-5;
 
-/// A drawing of v vertices, three numbers each.
-type Drawing = fn(usize) -> Vec<f64>;
+/// A kind's name, and its drawings.
+pub type Kind = (&'static str, &'static [Shape]);
+
+pub const KINDS: [Kind; 3] = [("lines", LINES), ("arcs", ARCS), ("mixed", MIXED)];
 
 pub struct Shape {
     pub name: &'static str,
-    closed: bool,
+    pub closed: bool,
     /// Positive; each shape is offset to both sides.
-    offset: f64,
-    drawing: Drawing,
+    pub offset: f64,
+    drawing: fn(usize) -> Vec<f64>,
 }
 
 impl Shape {
-    /// The shape with v vertices, offset to its left (1) or to its right (-1).
-    pub fn job(&self, v: usize, side: f64) -> Job {
+    /// The shape with v vertices, three numbers each. No two of them are one point.
+    pub fn source(&self, v: usize) -> Vec<f64> {
         let source = (self.drawing)(v);
         assert!(!repeats(&source), "{} repeats a vertex", self.name);
-        Job::new(self.closed, side * self.offset, EPS, source)
+        source
     }
 
-    /// Its name, whether it is closed, and how it is offset.
-    pub fn title(&self, side: f64) -> String {
-        let ends = if self.closed { "closed" } else { "open" };
-        format!("{} {ends} {:+}", self.name, side * self.offset)
+    pub fn ends(&self) -> &'static str {
+        ["open", "closed"][usize::from(self.closed)]
     }
 }
 
-/// Lines alone, which 02 asks for by name. In a spiral and a polygon all joins are outer to one side
-/// and inner to the other, with slight turns; in a zigzag and a star both come by turns, with sharp
-/// ones. Lettering has all of them, in no order that a processor could learn.
-pub const LINES: &[Shape] = &[
+/// Lines alone, which 02 asks for. In a spiral and a polygon all joins are outer to one side and inner
+/// to the other; in a zigzag both come by turns, and in a star of more than 83 vertices too, with sharp
+/// corners. Lettering has all of them, in no order that a processor could learn.
+const LINES: &[Shape] = &[
     Shape {
         name: "zigzag",
         closed: false,
@@ -67,10 +66,10 @@ pub const LINES: &[Shape] = &[
     },
 ];
 
-/// Arcs alone, which 02 asks for by name. Again joins of one class (spiral, rosette, scallops), of two
-/// by turns (vine) and of all (lettering). Each drawing has one bulge, two, or eight: a sweep that was
-/// worked out once could be used again.
-pub const ARCS: &[Shape] = &[
+/// Arcs alone, which 02 asks for. In a spiral, a rosette and scallops the joins are alike again; in a
+/// vine they are nearly tangent, and outer for a while, then inner; in lettering they come in no order.
+/// Each drawing has one bulge, two, or eight: a sweep that was worked out once could be used again.
+const ARCS: &[Shape] = &[
     Shape {
         name: "vine",
         closed: false,
@@ -105,9 +104,9 @@ pub const ARCS: &[Shape] = &[
 
 /// What the first two kinds leave out. Drift and petals are the arcs of lettering and rosette with no
 /// two bulges alike, so that no sweep can be used again. The others have lines and arcs by turns, as
-/// shops draw: fillets are tangent to the runs between them, slots meet them at right angles, and in
-/// letters both join as they come.
-pub const MIXED: &[Shape] = &[
+/// shops draw: fillets are tangent to the runs between them, slots are half circles that meet them at
+/// right angles, and in letters both join as they come.
+const MIXED: &[Shape] = &[
     Shape {
         name: "drift",
         closed: true,
@@ -133,7 +132,8 @@ pub const MIXED: &[Shape] = &[
         name: "slots",
         closed: true,
         offset: 0.2,
-        drawing: |v| around(v, |i| (700.0, TAU / v as f64, by_turns(i, sign(i)))),
+        // the last half circle closes a half disc, and the others stand along its edge
+        drawing: |v| walked(v, |i| (0.0, slot_length(i), by_turns(i, sign(i)))),
     },
     Shape {
         name: "letters",
@@ -227,6 +227,10 @@ fn stroke_length(i: usize) -> f64 {
     0.3 + 0.1 * (scattered(i + 7919) % 12) as f64
 }
 
+fn slot_length(i: usize) -> f64 {
+    0.7 + stroke_length(i)
+}
+
 fn stroke_bulge(i: usize) -> f64 {
     [0.1, -0.3, 0.6, -0.05, 0.2, -0.8, 0.4, -0.15][scattered(i + 104_729) % 8]
 }
@@ -235,8 +239,12 @@ fn sign(i: usize) -> f64 {
     [1.0, -1.0][scattered(i) % 2]
 }
 
+/// By splitmix64: neighbours have nothing in common, in their lowest digits neither.
 fn scattered(i: usize) -> usize {
-    (i.wrapping_mul(0x9e37_79b9_7f4a_7c15) >> 33).wrapping_mul(0x2545_f491) >> 13
+    let bits = (i as u64 + 1).wrapping_mul(0x9e37_79b9_7f4a_7c15);
+    let bits = (bits ^ (bits >> 30)).wrapping_mul(0xbf58_476d_1ce4_e5b9);
+    let bits = (bits ^ (bits >> 27)).wrapping_mul(0x94d0_49bb_1331_11eb);
+    ((bits ^ (bits >> 31)) >> 32) as usize
 }
 
 fn slow(i: usize) -> f64 {
@@ -249,6 +257,8 @@ fn repeats(source: &[f64]) -> bool {
     points.sort_by(|a, b| a.0.total_cmp(&b.0));
     points.iter().enumerate().any(|(i, &(x, y))| {
         let beside = points[i + 1..].iter().take_while(|next| next.0 - x <= EPS);
-        beside.into_iter().any(|next| (next.1 - y).abs() <= EPS)
+        beside
+            .map(|next| next.1)
+            .any(|next| (next - y).abs() <= EPS)
     })
 }
