@@ -1,133 +1,76 @@
-//! jobs [TURNS]: times whole jobs on the proved code and on 000 over its support module, on the same
-//! drawings, in one run. Each time is the least of many turns, in nanoseconds a vertex; the sides
-//! take turns, so that all meet the same machine.
+//! jobs [TURNS]: times whole jobs on the proved code and on 000 over its support
+//! module, on the same drawings, in one run, in nanoseconds a vertex.
 //!
 //! `proved` and `000` work the whole job: refusals, the offset, the lent buffers. `walk` is 000's own
 //! `create_raw_offset`, on a polyline that stands ready, into lists of its own. `atans` is how many
-//! arc tangents a vertex takes, on all sides alike.
-use bench::drawings::{Kind, Shape, EPS, KINDS};
-use oracle::polyline::internal::raw_pline_offset::create_raw_offset;
-use oracle::polyline::Polyline;
-use oracle::stage::{Buffers, Job, Outcome, Stage};
-use oracle::traced::{self, Site, Trace};
-use std::hint::black_box;
-use std::time::Instant;
+//! arc tangents a vertex takes on 000. Before anything is timed, each job's outcome on the proved code
+//! is held against 000's: the answer, and every place of the buffers.
+//!
+//! A machine's speed may change in the middle of a run, and not by one factor for all sides: with work
+//! beside it, the sides slow down differently. So the least of many turns may come from a fast moment of
+//! one side and a slow one of another. In each turn all sides work one right after another. A time is
+//! the median over the turns, and a ratio the median of the turns' own ratios. `quiet` is the ratio to
+//! 000 over the tenth of the turns that took the least time in all, thus with the least work beside
+//! them. The jobs take turns too, some at a time, so that each meets the same machine. Behind the bar
+//! stand the least times and their ratio.
+//!
+//! A turn has 4096 vertices on each side: a small job is shorter than the clock's step, so it is worked
+//! again and again. Caches and branches are then warm, for all sides alike.
+//!
+//! `mean` has the mean times of a table and their ratio, `worst` the highest ratio of a job in it.
+mod measure;
+mod tables;
 
-const MOST: usize = 4096;
+use bench::drawings::KINDS;
+use measure::{take_turns, Case, PLAIN};
+use oracle::stage::Stage;
 
-/// Works a job, into buffers that one side is lent again and again.
-fn run(job: &Job, stage: Stage, buffers: &mut Buffers) {
-    black_box(stage(black_box(job), buffers.lend(job.room)));
-    black_box(buffers);
-}
+/// The counts of vertices that have tables, and those between them.
+const SMALL: [usize; 3] = [4, 16, 64];
+const LARGE: usize = 4096;
+const BETWEEN: [usize; 7] = [8, 32, 128, 256, 512, 1024, 2048];
 
-/// The least times of the proved code, of 000's job and of 000's walk, in nanoseconds a vertex.
-fn least(job: &Job, turns: usize) -> [f64; 3] {
-    let pline = job.polyline();
-    let (mut proved, mut plain) = (Buffers::of(job.room), Buffers::of(job.room));
-    let mut best = [f64::MAX; 3];
-    for _ in 0..turns {
-        let times = [
-            time(|| run(job, oracle::proved::job, &mut proved)),
-            time(|| run(job, oracle::job, &mut plain)),
-            time(|| {
-                let drawn =
-                    create_raw_offset::<_, _, Polyline>(black_box(&pline), job.offset, job.eps);
-                black_box(drawn);
-            }),
-        ];
-        for (least, time) in best.iter_mut().zip(times) {
-            *least = least.min(time);
-        }
-    }
-    best.map(|time| time / (job.source.len() / 3) as f64)
-}
-
-fn time(run: impl FnOnce()) -> f64 {
-    let start = Instant::now();
-    run();
-    start.elapsed().as_nanos() as f64
-}
-
-fn job_of(shape: &Shape, v: usize, side: f64) -> Job {
-    Job::new(shape.closed, side * shape.offset, EPS, shape.source(v))
-}
-
-/// Stops where the two sides differ, or the job is refused.
-fn checked(job: &Job) -> Outcome {
-    let outcome = job.run(oracle::proved::job);
-    assert_eq!(outcome, job.run(oracle::job), "the sides differ");
-    assert_eq!(outcome.answer[0], 0, "the job is refused");
-    outcome
-}
-
-/// The arc tangents that a job takes, for each of its vertices.
-fn atans(job: &Job) -> f64 {
-    let mut trace = Trace::new();
-    traced::job(&mut trace, job);
-    let asked = trace
-        .path
-        .iter()
-        .filter(|asked| asked.site == Site::AtanBeyondOne);
-    asked.count() as f64 / (job.source.len() / 3) as f64
-}
-
-fn table((kind, shapes): Kind, turns: usize) {
-    println!(
-        "{kind}, v = {MOST}: ns a vertex  flagged atans  proved     000    walk   /000  /walk"
-    );
-    let mut sums = [0.0; 3];
-    for shape in shapes {
-        for side in [1.0, -1.0] {
-            let job = job_of(shape, MOST, side);
-            let flagged = checked(&job).answer[3];
-            let times = least(&job, turns);
-            let title = format!("{} {} {:+}", shape.name, shape.ends(), job.offset);
-            let atans = atans(&job);
-            show(&format!("{title:<28} {flagged:>5} {atans:>5.2}"), times);
-            for (sum, time) in sums.iter_mut().zip(times) {
-                *sum += time / (2 * shapes.len()) as f64;
+/// Each drawing of each kind, and the last of each kind with every count of vertices.
+fn cases(stages: &[Stage]) -> Vec<Case> {
+    let mut cases = Vec::new();
+    for (kind, shapes) in KINDS {
+        for shape in shapes {
+            for v in SMALL.into_iter().chain([LARGE]) {
+                cases.extend([1.0, -1.0].map(|side| Case::new(stages, kind, shape, v, side)));
             }
         }
+        let last = shapes.last().expect("a kind has drawings");
+        cases.extend(BETWEEN.map(|v| Case::new(stages, kind, last, v, 1.0)));
     }
-    show(&format!("{:<40}", "mean"), sums);
-}
-
-fn show(name: &str, [proved, plain, walk]: [f64; 3]) {
-    println!(
-        "  {name} {proved:>7.1} {plain:>7.1} {walk:>7.1} {:>6.2} {:>6.2}",
-        proved / plain,
-        proved / walk
-    );
-}
-
-/// The time against the count of vertices.
-fn growth((kind, shapes): Kind, turns: usize) {
-    let shape = &shapes[4];
-    println!(
-        "{kind}, {}: v, ns a vertex      proved     000    walk   /000  /walk",
-        shape.name
-    );
-    for v in (4..=12).map(|power| 1 << power) {
-        let job = job_of(shape, v, 1.0);
-        checked(&job);
-        show(&format!("{v:<24}"), least(&job, turns * MOST / v));
-    }
+    cases
 }
 
 fn main() {
-    let turns = std::env::args().nth(1).map_or(400, |word| {
+    let turns = std::env::args().nth(1).map_or(200, |word| {
         word.parse().unwrap_or_else(|_| {
             eprintln!("jobs: no number: {word}");
             std::process::exit(2)
         })
     });
-    // From here on the allocator keeps what 000's lists give back: new pages are not in its times.
-    drop(black_box(vec![1_u8; 24 << 20]));
+    let mut cases = cases(&[oracle::proved::job, oracle::job]);
+    println!(
+        "{} jobs have the same outcome on both sides; {turns} turns each",
+        cases.len()
+    );
+    take_turns(&mut cases, turns);
     for kind in KINDS {
-        table(kind, turns);
+        tables::by_job(&cases, kind, LARGE);
+    }
+    for v in SMALL {
+        for kind in KINDS {
+            tables::by_drawing(&cases, kind, v);
+        }
     }
     for kind in KINDS {
-        growth(kind, turns / 4);
+        tables::growth(&cases, kind);
     }
+    let sizes = [&[LARGE], &SMALL[..]].concat();
+    let summary = |name, pick| tables::summary(&cases, name, &sizes, pick);
+    summary("proved / 000", |figures| figures.ratio[PLAIN]);
+    summary("proved / 000, quiet turns", |figures| figures.quiet[PLAIN]);
 }
