@@ -1,4 +1,4 @@
-//! jobs [TURNS]: times whole jobs on the proved code and on 000 over its support
+//! jobs [TURNS] [--before PATH.so]: times whole jobs on the proved code and on 000 over its support
 //! module, on the same drawings, in one run, in nanoseconds a vertex.
 //!
 //! `proved` and `000` work the whole job: refusals, the offset, the lent buffers. `walk` is 000's own
@@ -18,12 +18,22 @@
 //! again and again. Caches and branches are then warm, for all sides alike.
 //!
 //! `mean` has the mean times of a table and their ratio, `worst` the highest ratio of a job in it.
+//!
+//! With `--before` another build of the stage is timed beside these, and `now/before` is the median of
+//! the turns' ratios of the two. It is a shared object, which a static archive becomes by
+//!
+//! ```sh
+//! cc -shared -Wl,--whole-archive before.a -Wl,--no-whole-archive -o before.so
+//! ```
+mod before;
 mod measure;
 mod tables;
+mod wanted;
 
 use bench::drawings::KINDS;
-use measure::{take_turns, Case, PLAIN};
+use measure::{take_turns, Case, BEFORE, PLAIN};
 use oracle::stage::Stage;
+use wanted::Wanted;
 
 /// The counts of vertices that have tables, and those between them.
 const SMALL: [usize; 3] = [4, 16, 64];
@@ -46,18 +56,14 @@ fn cases(stages: &[Stage]) -> Vec<Case> {
 }
 
 fn main() {
-    let turns = std::env::args().nth(1).map_or(200, |word| {
-        word.parse().unwrap_or_else(|_| {
-            eprintln!("jobs: no number: {word}");
-            std::process::exit(2)
-        })
-    });
-    let mut cases = cases(&[oracle::proved::job, oracle::job]);
+    let wanted = Wanted::by_words(std::env::args());
+    let mut cases = cases(&wanted.stages());
     println!(
-        "{} jobs have the same outcome on both sides; {turns} turns each",
-        cases.len()
+        "{} jobs have the same outcome on all sides; {} turns each",
+        cases.len(),
+        wanted.turns
     );
-    take_turns(&mut cases, turns);
+    take_turns(&mut cases, wanted.turns);
     for kind in KINDS {
         tables::by_job(&cases, kind, LARGE);
     }
@@ -73,4 +79,8 @@ fn main() {
     let summary = |name, pick| tables::summary(&cases, name, &sizes, pick);
     summary("proved / 000", |figures| figures.ratio[PLAIN]);
     summary("proved / 000, quiet turns", |figures| figures.quiet[PLAIN]);
+    if wanted.before {
+        summary("now / before", |figures| figures.ratio[BEFORE]);
+        summary("now / before, quiet turns", |figures| figures.quiet[BEFORE]);
+    }
 }

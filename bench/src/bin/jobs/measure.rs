@@ -141,10 +141,11 @@ pub fn take_turns(cases: &mut [Case], turns: usize) {
     }
 }
 
-/// Where each side stands in `Figures`.
+/// Where each side stands in `Figures`; the last one is there where it was asked for.
 pub const PROVED: usize = 0;
 pub const PLAIN: usize = 1;
 pub const WALK: usize = 2;
+pub const BEFORE: usize = 3;
 
 /// Each has an entry a side: times are nanoseconds a vertex, and ratios the proved side's time by the
 /// side's.

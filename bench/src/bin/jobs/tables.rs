@@ -1,12 +1,12 @@
 //! What was measured, as tables.
-use crate::measure::{Case, Figures, PLAIN, PROVED, WALK};
+use crate::measure::{Case, Figures, BEFORE, PLAIN, PROVED, WALK};
 use bench::drawings::{Kind, KINDS};
 
 /// A line for each job of a kind with v vertices.
 pub fn by_job(cases: &[Case], kind: Kind, v: usize) {
     let cases = of(cases, kind, v);
     let title = format!("{}, v = {v}", kind.0);
-    header(&format!("{title:<28}flagged atans"));
+    header(&format!("{title:<28}flagged atans"), &cases);
     for case in &cases {
         let (title, atans) = (case.title(), case.atans());
         let label = format!("{title:<26}{:>7} {atans:>5.2}", case.flagged);
@@ -18,7 +18,7 @@ pub fn by_job(cases: &[Case], kind: Kind, v: usize) {
 /// A line for each drawing of a kind with v vertices: the mean of both sides.
 pub fn by_drawing(cases: &[Case], kind: Kind, v: usize) {
     let cases = of(cases, kind, v);
-    header(&format!("{}, v = {v}, mean of both sides", kind.0));
+    header(&format!("{}, v = {v}, mean of both sides", kind.0), &cases);
     for both in cases.chunk_by(|a, b| a.shape.name == b.shape.name) {
         let shape = both[0].shape;
         let label = format!("{} {} ±{}", shape.name, shape.ends(), shape.offset);
@@ -35,7 +35,7 @@ pub fn growth(cases: &[Case], (kind, shapes): Kind) {
         .filter(|case| case.kind == kind && case.shape.name == shape.name && case.offset() > 0.0)
         .collect();
     cases.sort_by_key(|case| case.v);
-    header(&format!("{kind}, {}: v", cases[0].title()));
+    header(&format!("{kind}, {}: v", cases[0].title()), &cases);
     for case in &cases {
         show(&case.v.to_string(), &case.figures());
     }
@@ -74,9 +74,12 @@ fn worst<'a>(cases: &[&'a Case], pick: fn(&Figures) -> f64) -> (&'a Case, f64) {
         .expect("a table has jobs")
 }
 
-fn header(label: &str) {
+fn header(label: &str, cases: &[&Case]) {
     print!("\n{label:<42}  proved     000    walk   /000  quiet  /walk");
     print!("  |  least     000    walk   /000");
+    if cases[0].figures().median.len() > BEFORE {
+        print!("  | before  now/before  quiet");
+    }
     println!();
 }
 
@@ -98,6 +101,12 @@ fn show(label: &str, figures: &Figures) {
         &times(least)[1..],
         least[PROVED] / least[PLAIN]
     );
+    if let Some(before) = median.get(BEFORE) {
+        print!(
+            "  |{before:>7.1}{:>12.2}{:>7.2}",
+            ratio[BEFORE], quiet[BEFORE]
+        );
+    }
     println!();
 }
 
