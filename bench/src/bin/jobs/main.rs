@@ -6,13 +6,13 @@
 //! arc tangents a vertex takes on 000. Before anything is timed, each job's outcome on the proved code
 //! is held against 000's: the answer, and every place of the buffers.
 //!
-//! A machine's speed may change in the middle of a run, and not by one factor for all sides: with work
-//! beside it, the sides slow down differently. So the least of many turns may come from a fast moment of
-//! one side and a slow one of another. In each turn all sides work one right after another. A time is
-//! the median over the turns, and a ratio the median of the turns' own ratios. `quiet` is the ratio to
-//! 000 over the tenth of the turns that took the least time in all, thus with the least work beside
-//! them. The jobs take turns too, some at a time, so that each meets the same machine. Behind the bar
-//! stand the least times and their ratio.
+//! A machine's speed may change in the middle of a run, and not by one factor for all sides: with other
+//! work beside it 000 lost more than the proved code did. So the least of many turns may be from a fast
+//! moment of one side and a slow one of another. In each turn all sides work one right after another. A
+//! time is the median over the turns, and a ratio the median of the turns' own ratios. `quiet` is the
+//! ratio to 000 over the tenth of the turns that took the least time in all: the one to quote where the
+//! machine had other work. The jobs take turns too, some at a time, so that each meets the same machine.
+//! Behind the bar stand the least times and their ratio.
 //!
 //! A turn has 4096 vertices on each side: a small job is shorter than the clock's step, so it is worked
 //! again and again. Caches and branches are then warm, for all sides alike.
