@@ -32,7 +32,7 @@ impl Shape {
 
 /// Lines alone, which 02 asks for. In a spiral and a polygon all joins are outer to one side and inner
 /// to the other; in a zigzag both come by turns, and in a star of more than 83 vertices too, with sharp
-/// corners. Lettering has all of them, in no order that a processor could learn.
+/// corners. Lettering has all of them.
 const LINES: &[Shape] = &[
     Shape {
         name: "zigzag",
@@ -62,12 +62,17 @@ const LINES: &[Shape] = &[
         name: "lettering",
         closed: true,
         offset: 0.1,
-        drawing: |v| walked(v, |i| (stroke_turn(i), stroke_length(i), 0.0)),
+        drawing: |v| {
+            walked(v, |i| {
+                let (turn, length, _) = stroke(i, repeating);
+                (turn, length, 0.0)
+            })
+        },
     },
 ];
 
 /// Arcs alone, which 02 asks for. In a spiral, a rosette and scallops the joins are alike again; in a
-/// vine they are nearly tangent, and outer for a while, then inner; in lettering they come in no order.
+/// vine they are nearly tangent, and outer for a while, then inner; lettering has all of them.
 /// Each drawing has one bulge, two, or eight: a sweep that was worked out once could be used again.
 const ARCS: &[Shape] = &[
     Shape {
@@ -98,22 +103,25 @@ const ARCS: &[Shape] = &[
         name: "lettering",
         closed: true,
         offset: 0.1,
-        drawing: |v| walked(v, |i| (stroke_turn(i), stroke_length(i), stroke_bulge(i))),
+        drawing: |v| walked(v, |i| stroke(i, repeating)),
     },
 ];
 
-/// What the first two kinds leave out. Drift and petals are the arcs of lettering and rosette with no
-/// two bulges alike, so that no sweep can be used again. The others have lines and arcs by turns, as
-/// shops draw: fillets are tangent to the runs between them, slots are half circles that meet them at
-/// right angles, and in letters both join as they come.
+/// What the first two kinds leave out. Drift and petals are arcs like those of lettering and rosette
+/// with no two bulges alike, so that no sweep can be used again. The others have lines and arcs by
+/// turns, as shops draw: fillets are tangent to the runs between them, slots are half circles that meet
+/// them at right angles, and in letters both join as they come. Strokes come in no order that a
+/// processor could learn.
 const MIXED: &[Shape] = &[
     Shape {
         name: "drift",
         closed: true,
         offset: 0.1,
         drawing: |v| {
-            let bulge = |i: usize| stroke_bulge(i) * (1.0 + i as f64 * 1e-5);
-            walked(v, |i| (stroke_turn(i), stroke_length(i), bulge(i)))
+            walked(v, |i| {
+                let (turn, length, bulge) = stroke(i, scattered);
+                (turn, length, bulge * (1.0 + i as f64 * 1e-5))
+            })
         },
     },
     Shape {
@@ -140,8 +148,10 @@ const MIXED: &[Shape] = &[
         closed: true,
         offset: 0.1,
         drawing: |v| {
-            let bulge = |i| by_turns(i, stroke_bulge(i));
-            walked(v, |i| (stroke_turn(i), stroke_length(i), bulge(i)))
+            walked(v, |i| {
+                let (turn, length, bulge) = stroke(i, scattered);
+                (turn, length, by_turns(i, bulge))
+            })
         },
     },
 ];
@@ -217,26 +227,31 @@ fn by_turns(i: usize, bulge: f64) -> f64 {
     [0.0, bulge][i % 2]
 }
 
-/// Turns, lengths and bulges that look like the outline of letters: sharp corners among slight turns,
-/// and no short period that a processor could learn.
-fn stroke_turn(i: usize) -> f64 {
-    [0.1, -0.2, 1.5, 0.3, -1.4, 0.05, -0.6, 2.2][scattered(i) % 8]
+/// Turn, length and bulge of a stroke, so that strokes look like the outline of letters: sharp corners
+/// among slight turns.
+fn stroke(i: usize, order: fn(usize) -> usize) -> (f64, f64, f64) {
+    let turn = [0.1, -0.2, 1.5, 0.3, -1.4, 0.05, -0.6, 2.2][order(i) % 8];
+    let length = 0.3 + 0.1 * (order(i + 7919) % 12) as f64;
+    let bulge = [0.1, -0.3, 0.6, -0.05, 0.2, -0.8, 0.4, -0.15][order(i + 104_729) % 8];
+    (turn, length, bulge)
 }
 
 fn stroke_length(i: usize) -> f64 {
-    0.3 + 0.1 * (scattered(i + 7919) % 12) as f64
+    stroke(i, scattered).1
 }
 
 fn slot_length(i: usize) -> f64 {
     0.7 + stroke_length(i)
 }
 
-fn stroke_bulge(i: usize) -> f64 {
-    [0.1, -0.3, 0.6, -0.05, 0.2, -0.8, 0.4, -0.15][scattered(i + 104_729) % 8]
-}
-
 fn sign(i: usize) -> f64 {
     [1.0, -1.0][scattered(i) % 2]
+}
+
+/// For long stretches turns and bulges come again after eight strokes. Lettering has this order since
+/// it was first timed, and keeps it, so that its times can be held to earlier ones.
+fn repeating(i: usize) -> usize {
+    (i.wrapping_mul(0x9e37_79b9_7f4a_7c15) >> 33).wrapping_mul(0x2545_f491) >> 13
 }
 
 /// By splitmix64: neighbours have nothing in common, in their lowest digits neither.
