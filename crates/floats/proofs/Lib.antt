@@ -16,4 +16,5 @@ pub mod Result
 pub mod Digits
 pub mod Residue
 pub mod Even
+pub mod Tested
 pub mod Nearest

@@ -146,8 +146,16 @@ pub fn connector_bulge(
 ) -> f64
     ensures { λ r. ⌜ r ≡ connectorBulge offset «current_end» «next_start» «shared_source_vertex» ⌝ }
 {
-    let current_direction = current_end.sub(shared_source_vertex).normalize();
-    let next_direction = next_start.sub(shared_source_vertex).normalize();
+    let to_end = current_end.sub(shared_source_vertex);
+    let to_start = next_start.sub(shared_source_vertex);
+    // both are about as long as the offset
+    let lengths = floats::roots_near(
+        to_end.length_squared(),
+        to_start.length_squared(),
+        floats::abs(offset),
+    );
+    let current_direction = to_end.normalize_by(lengths.first);
+    let next_direction = to_start.normalize_by(lengths.second);
     let cos_sweep = clamp_cos(current_direction.dot(next_direction));
     let sin_sweep = clamp_sin(floats::abs(current_direction.perp_dot(next_direction)));
     let size = bulge_size(cos_sweep, sin_sweep);
