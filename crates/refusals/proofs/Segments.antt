@@ -67,6 +67,9 @@ module _ (s : List Float) (v : ℕ) (long : 3 * v ≡ length s) (two : 2 ≤ v) 
   pub segment-test : (ε : Float) (closed : Bool) (k : ℕ) → k < segmentsOf closed v → getD (repeatTests ε closed (verticesOf s)) k false ≡ repeats ε (vertexOf s k) (vertexOf s (nextOf v k))
   segment-test ε closed k h = joined-test ε (verticesOf s) closed (segment-joins closed k h)
 
+  pub neighbour-test : (ε : Float) (closed : Bool) (k : ℕ) → k + 1 < v → getD (repeatTests ε closed (verticesOf s)) k false ≡ repeats ε (vertexOf s k) (vertexOf s (k + 1))
+  neighbour-test ε closed k h = joined-test ε (verticesOf s) closed (next (at k (omega arith)) (at (k + 1) h))
+
   pub segment-tests : (ε : Float) (closed : Bool) → length (repeatTests ε closed (verticesOf s)) ≡ segmentsOf closed v
   unfolding repeatTests
   segment-tests ε true =

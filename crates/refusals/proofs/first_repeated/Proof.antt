@@ -1,12 +1,12 @@
 -- `first_repeated`: the loop keeps that the search from its place on gives what the search of all tests gives. Assumes nothing.
-use mathlib.Core.Path.{_≡_, refl, _∙_}
+use mathlib.Core.Path.{_≡_, _∙_}
 use Prim.Native.Nat.{_-_, _≤_}
 use native.Mathlib.Omega.{arith}
 use borrow.Author.Needs.{needs}
 use Rattle.refusals.specs.Source.{verticesOf, segmentsOf}
 use Rattle.refusals.specs.Limits.{repeatTests, firstOf}
-use Rattle.refusals.proofs.First.{rest, first-step, first-found, first-end}
-use Rattle.refusals.proofs.Segments.{segments-most, segment-test, no-more-segments}
+use Rattle.refusals.proofs.First.{rest, first-skip, first-step, first-found, first-end}
+use Rattle.refusals.proofs.Segments.{segments-most, neighbour-test, segment-test, no-more-segments}
 use Rattle.refusals.proofs.first_repeated.Statement.{statement}
 use Rattle.refusals.proofs.first_repeated.Tie as tie
 
@@ -17,7 +17,12 @@ abbrev μ-loop : tie.MeasureT-loop
 μ-loop source v closed eps n k₀ k = n - k
 
 loop-holds : tie.Need-loop-holds Inv-loop μ-loop
-loop-holds c = (c .segment-count .ensures, rw (c .segment-count .ensures) (segments-most _ _), refl)
+loop-holds c =
+    let counted = c .before .segment-count .ensures in
+    let start = c .before .before .before in
+    let two = start .pre .0 in
+    let close = c .first-close .ensures in
+    (counted, rw counted (segments-most _ _), first-skip _ _ (λ k h. neighbour-test _ _ (start .pre .1 .1) two _ _ k (omega arith) ∙ close .1 k h))
 
 next-place-requires : tie.Need-next-place-requires Inv-loop μ-loop
 next-place-requires c κs = omega arith
@@ -32,7 +37,7 @@ cast : tie.Need-cast-t12 Inv-loop μ-loop
 cast c = omega arith
 
 returns : tie.Need-returns Inv-loop μ-loop
-returns c = first-found _ _ (segment-test _ _ (c .before .before .before .before .before .before .before .before .before .pre .1 .1) (c .before .before .before .before .before .before .before .before .before .pre .0) _ _ _ (rw (c .before .before .before .before .before .before .loop .inv .0) at (c .before .before .before .before .before .loop-test .taken)) ∙ (cc)) ∙ c .before .before .before .before .before .before .loop .inv .2
+returns c = first-found _ _ (segment-test _ _ (c .before .before .before .before .before .before .before .before .before .before .pre .1 .1) (c .before .before .before .before .before .before .before .before .before .before .pre .0) _ _ _ (rw (c .before .before .before .before .before .before .loop .inv .0) at (c .before .before .before .before .before .loop-test .taken)) ∙ (cc)) ∙ c .before .before .before .before .before .before .loop .inv .2
 
 add-earlier : tie.Need-add-earlier Inv-loop μ-loop
 add-earlier c = search needs
@@ -41,12 +46,12 @@ loop-less : tie.Need-loop-less Inv-loop μ-loop
 loop-less c = omega arith
 
 loop-again : tie.Need-loop-again Inv-loop μ-loop
-loop-again c = (c .before .before .before .before .before .before .loop .inv .0, search needs, first-step _ _ (segment-test _ _ (c .before .before .before .before .before .before .before .before .before .pre .1 .1) (c .before .before .before .before .before .before .before .before .before .pre .0) _ _ _ (rw (c .before .before .before .before .before .before .loop .inv .0) at (c .before .before .before .before .before .loop-test .taken)) ∙ (cc)) ∙ c .before .before .before .before .before .before .loop .inv .2)
+loop-again c = (c .before .before .before .before .before .before .loop .inv .0, search needs, first-step _ _ (segment-test _ _ (c .before .before .before .before .before .before .before .before .before .before .pre .1 .1) (c .before .before .before .before .before .before .before .before .before .before .pre .0) _ _ _ (rw (c .before .before .before .before .before .before .loop .inv .0) at (c .before .before .before .before .before .loop-test .taken)) ∙ (cc)) ∙ c .before .before .before .before .before .before .loop .inv .2)
 
 returns-2 : tie.Need-returns-2 Inv-loop μ-loop
-returns-2 c = first-end _ _ (no-more-segments _ _ (c .before .before .before .before .pre .1 .1) (c .before .before .before .before .pre .0) _ _ _ (rw (c .before .loop .inv .0) at (c .loop-test .left))) ∙ c .before .loop .inv .2
+returns-2 c = first-end _ _ (no-more-segments _ _ (c .before .before .before .before .before .pre .1 .1) (c .before .before .before .before .before .pre .0) _ _ _ (rw (c .before .loop .inv .0) at (c .loop-test .left))) ∙ c .before .loop .inv .2
 
 pub first-repeated-spec : {M : Type 1} → statement M
 first-repeated-spec =
     tie.close
-    (tie.spec Inv-loop μ-loop (λ c κs. tt) loop-holds next-place-requires vertex-at-requires vertex-at-requires-2 (λ c κs. tt) cast returns add-earlier loop-less loop-again returns-2)
+    (tie.spec Inv-loop μ-loop (λ c κs. tt) (λ c κs. omega arith) loop-holds next-place-requires vertex-at-requires vertex-at-requires-2 (λ c κs. tt) cast returns add-earlier loop-less loop-again returns-2)
