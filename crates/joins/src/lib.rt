@@ -7,11 +7,14 @@ ghost use Rattle.joins.specs.declared.JoinClass.the-variants.{InvalidInn
 ghost use Rattle.joins.specs.Boundary.{connected, straight, trimmed, isGap};
 ghost use Rattle.joins.specs.Connector.{clampCos, clampSin, bulgeSize, connectorBulge};
 ghost use Rattle.joins.specs.Join.{tangentCause, causeOf, trimmedBy, innerJoin, joinOf};
-ghost use Rattle.joins.specs.Steps.{turnCause, settledBy};
+ghost use Rattle.joins.specs.Steps.{turnCause, settledBy, joined, seenArc, seenSeg, Joins};
+ghost use Rattle.segments.specs.Steps.{fullSeg, Marked};
+ghost use Rattle.meetings.specs.Steps.{notSeen, angled};
 use meetings::Met;
-use segments::RawOffsetArc;
+use meetings::SeenArc;
+use segments::CarriedArc;
+use segments::CarriedSeg;
 use segments::RawOffsetLine;
-use segments::RawOffsetSeg;
 use vectors::Vector2;
 
 pub enum JoinClass {
@@ -206,8 +209,9 @@ fn tangent_cause(incoming: Vector2, outgoing: Vector2, offset: f64, eps: f64) ->
     turn_cause(turn, alignment, incoming_len_sq, outgoing_len_sq, offset)
 }
 
-pub fn classify_join(current: RawOffsetSeg, next: RawOffsetSeg, offset: f64, eps: f64) -> JoinCause
-    ensures { λ r. ⌜ r ≡ causeOf current next offset eps ⌝ }
+pub fn classify_join(current: CarriedSeg, next: CarriedSeg, offset: f64, eps: f64) -> JoinCause
+    requires { ⌜ Marked current × Marked next ⌝ }
+    ensures { λ r. ⌜ r ≡ causeOf (fullSeg current) (fullSeg next) offset eps ⌝ }
 {
     if current.end().fuzzy_eq_eps(next.start(), eps) {
         return JoinCause::Coincident;
@@ -224,13 +228,14 @@ fn degenerate_gap(current_end: Vector2, next_start: Vector2) -> JoinBoundary
 // The boundary of each cause but an inner turn. A coincident one starts the next span at the
 // current segment's end.
 pub fn join_without_intersection(
-    current: RawOffsetSeg,
-    next: RawOffsetSeg,
+    current: CarriedSeg,
+    next: CarriedSeg,
     shared_source_vertex: Vector2,
     offset: f64,
     eps: f64,
 ) -> Settled
-    ensures { λ r. ⌜ r ≡ settledBy (causeOf current next offset eps) current next «shared_source_vertex» offset eps ⌝ }
+    requires { ⌜ Marked current × Marked next ⌝ }
+    ensures { λ r. ⌜ r ≡ settledBy (causeOf (fullSeg current) (fullSeg next) offset eps) (fullSeg current) (fullSeg next) «shared_source_vertex» offset eps ⌝ }
 {
     let end = current.end();
     let start = next.start();
@@ -279,81 +284,125 @@ fn trimmed_or_gap(met: Met, current_end: Vector2, next_start: Vector2) -> JoinBo
     }
 }
 
+// A boundary, and what is known of the next segment's start angle, if it is an arc.
+pub struct Joined {
+    pub boundary: JoinBoundary,
+    pub seen: f64,
+}
+
+// No start angle was asked for.
+fn unseen(boundary: JoinBoundary) -> Joined
+    ensures { λ r. ⌜ r ≡ joined boundary notSeen ⌝ }
+{
+    let seen = meetings::not_seen();
+    Joined { boundary, seen }
+}
+
+fn seen_arc(arc: CarriedArc, seen: f64) -> SeenArc
+    ensures { λ r. ⌜ r ≡ seenArc seen arc ⌝ }
+{
+    let start = arc.start;
+    let end = arc.end;
+    let center = arc.center;
+    SeenArc {
+        start,
+        end,
+        center,
+        radius: arc.radius,
+        sweep: arc.sweep,
+        seen,
+    }
+}
+
 fn join_from_line(
     current: RawOffsetLine,
-    next: RawOffsetSeg,
+    next: CarriedSeg,
     shared_source_vertex: Vector2,
     eps: f64,
-) -> JoinBoundary
-    ensures { λ r. ⌜ r ≡ innerJoin (Line current) next «shared_source_vertex» eps ⌝ }
+) -> Joined
+    ensures { λ r. ⌜ Joins r (innerJoin (Line current) (fullSeg next) «shared_source_vertex» eps) next ⌝ }
 {
     match next {
-        RawOffsetSeg::Line(line) => trimmed_or_gap(
+        CarriedSeg::Line(line) => unseen(trimmed_or_gap(
             meetings::line_line_meeting(current, line, eps),
             current.end,
             line.start,
-        ),
-        RawOffsetSeg::Arc(arc) => trimmed_or_gap(
-            meetings::line_arc_meeting(current, arc, shared_source_vertex, eps),
-            current.end,
-            arc.start,
-        ),
-        RawOffsetSeg::Collapsed(arc) => inner_gap(current.end, arc.start),
+        )),
+        CarriedSeg::Arc(arc) => {
+            let unknown = seen_arc(arc, meetings::not_seen());
+            let shown = meetings::line_arc_meeting(current, unknown, shared_source_vertex, eps);
+            let met = shown.met;
+            let boundary = trimmed_or_gap(met, current.end, arc.start);
+            Joined {
+                boundary,
+                seen: shown.seen,
+            }
+        }
+        CarriedSeg::Collapsed(arc) => unseen(inner_gap(current.end, arc.start)),
     }
 }
 
 fn join_from_arc(
-    current: RawOffsetArc,
-    next: RawOffsetSeg,
+    current: SeenArc,
+    next: CarriedSeg,
     shared_source_vertex: Vector2,
     eps: f64,
-) -> JoinBoundary
-    ensures { λ r. ⌜ r ≡ innerJoin (Arc current) next «shared_source_vertex» eps ⌝ }
+) -> Joined
+    ensures { λ r. ⌜ Joins r (innerJoin (Arc (angled current)) (fullSeg next) «shared_source_vertex» eps) next ⌝ }
 {
     match next {
-        RawOffsetSeg::Line(line) => trimmed_or_gap(
+        CarriedSeg::Line(line) => unseen(trimmed_or_gap(
             meetings::arc_line_meeting(current, line, shared_source_vertex, eps),
             current.end,
             line.start,
-        ),
-        RawOffsetSeg::Arc(arc) => trimmed_or_gap(
-            meetings::arc_arc_meeting(current, arc, shared_source_vertex, eps),
-            current.end,
-            arc.start,
-        ),
-        RawOffsetSeg::Collapsed(arc) => inner_gap(current.end, arc.start),
+        )),
+        CarriedSeg::Arc(arc) => {
+            let unknown = seen_arc(arc, meetings::not_seen());
+            let shown = meetings::arc_arc_meeting(current, unknown, shared_source_vertex, eps);
+            let met = shown.met;
+            let boundary = trimmed_or_gap(met, current.end, arc.start);
+            Joined {
+                boundary,
+                seen: shown.seen,
+            }
+        }
+        CarriedSeg::Collapsed(arc) => unseen(inner_gap(current.end, arc.start)),
     }
 }
 
 // The two are intersected; a collapsed one has no line or circle to meet.
 fn inner_join(
-    current: RawOffsetSeg,
-    next: RawOffsetSeg,
+    current: CarriedSeg,
+    seen: f64,
+    next: CarriedSeg,
     shared_source_vertex: Vector2,
     eps: f64,
-) -> JoinBoundary
-    ensures { λ r. ⌜ r ≡ innerJoin current next «shared_source_vertex» eps ⌝ }
+) -> Joined
+    ensures { λ r. ⌜ Joins r (innerJoin (seenSeg seen current) (fullSeg next) «shared_source_vertex» eps) next ⌝ }
 {
     match current {
-        RawOffsetSeg::Line(line) => join_from_line(line, next, shared_source_vertex, eps),
-        RawOffsetSeg::Arc(arc) => join_from_arc(arc, next, shared_source_vertex, eps),
-        RawOffsetSeg::Collapsed(arc) => inner_gap(arc.end, next.start()),
+        CarriedSeg::Line(line) => join_from_line(line, next, shared_source_vertex, eps),
+        CarriedSeg::Arc(arc) => join_from_arc(seen_arc(arc, seen), next, shared_source_vertex, eps),
+        CarriedSeg::Collapsed(arc) => unseen(inner_gap(arc.end, next.start())),
     }
 }
 
-// The boundary between two neighbouring offset segments.
+// The boundary between two neighbouring offset segments. `seen` is what is known of the current one's
+// start angle, if it is an arc.
 pub fn analyze_join(
-    current: RawOffsetSeg,
-    next: RawOffsetSeg,
+    current: CarriedSeg,
+    seen: f64,
+    next: CarriedSeg,
     shared_source_vertex: Vector2,
     offset: f64,
     eps: f64,
-) -> JoinBoundary
-    ensures { λ r. ⌜ r ≡ joinOf current next «shared_source_vertex» offset eps ⌝ }
+) -> Joined
+    requires { ⌜ Marked current × Marked next ⌝ }
+    ensures { λ r. ⌜ Joins r (joinOf (seenSeg seen current) (fullSeg next) «shared_source_vertex» offset eps) next ⌝ }
 {
     let settled = join_without_intersection(current, next, shared_source_vertex, offset, eps);
     if let Settled::Boundary(boundary) = settled {
-        return boundary;
+        return unseen(boundary);
     }
-    inner_join(current, next, shared_source_vertex, eps)
+    inner_join(current, seen, next, shared_source_vertex, eps)
 }

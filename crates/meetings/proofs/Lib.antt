@@ -1,3 +1,4 @@
 pub mod Candidates
 pub mod Samples
 pub mod Nearer
+pub mod Starts

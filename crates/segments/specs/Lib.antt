@@ -1,2 +1,3 @@
 pub mod Vertex
 pub mod Segment
+pub mod Steps

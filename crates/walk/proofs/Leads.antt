@@ -13,10 +13,9 @@ use Rattle.joins.specs.declared.JoinClass.the-variants.{Coincident}
 use Rattle.joins.specs.Boundary.{straight}
 use Rattle.refusals.specs.Steps.{vertexOf}
 use Rattle.emission.specs.Buffers.{Buffers}
-use Rattle.walk.specs.declared.Walker.{Walker}
 use Rattle.walk.specs.declared.Walked.{Walked}
 use Rattle.walk.specs.Walk.{joinAt}
-use Rattle.walk.specs.Steps.{walkerAt, standing, entering, turnOf, turned, Trail, trail, advances, firstAt, openEntry, stretch, joinOfSource}
+use Rattle.walk.specs.Steps.{Standing, stands, walkerAt, standing, entering, turnOf, turned, Trail, trail, advances, firstAt, openEntry, stretch, joinOfSource}
 use Rattle.walk.proofs.Turning.{advances-moves}
 use Rattle.walk.proofs.Stretches.{stretch-one, stretch-two}
 use Rattle.walk.proofs.Sources.{closing-is}
@@ -39,12 +38,12 @@ module _ (offset ε : Float) where
   two-entered l a b j = refl
 
   -- where turns lead, whatever they draw
-  pub led-in : (vs : List PlineVertex) (f : Walked) (bs : Buffers) {a a′ : PlineVertex} {w : Walked} {bs′ : Buffers} → a′ ≡ a → f .walker ≡ standing a′
-      → trail w bs′ ≡ advances offset ε vs (trail f bs) → w .walker ≡ turned offset ε vs (standing a)
-  led-in vs f bs ha hf h = ap (λ (r : Trail). r .walker) (h ∙ advances-moves offset ε vs (trail f bs)) ∙ ap (turned offset ε vs) (hf ∙ ap standing ha)
+  pub led-in : (vs : List PlineVertex) (f w : Walked) (bs : Buffers) {a a′ : PlineVertex} {bs′ : Buffers} → a′ ≡ a → stands (f .walker) ≡ standing a′
+      → trail w bs′ ≡ advances offset ε vs (trail f bs) → stands (w .walker) ≡ turned offset ε vs (standing a)
+  led-in vs f w bs ha hf h = ap (λ (r : Trail). r .walker) (h ∙ advances-moves offset ε vs (trail f bs)) ∙ ap (turned offset ε vs) (hf ∙ ap standing ha)
 
   -- ---- of a source that is lent
-  module _ (s : List Float) {w : Walker} where
+  module _ (s : List Float) {w : Standing} where
     pub open-current : 6 ≤ length s → w ≡ turned offset ε (stretch 1 2 s) (standing (vertexOf s 0)) → w .current ≡ offsetSeg (vertexOf s 0) (vertexOf s 1) offset
     open-current l h = rw (h, stretch-one s 1 l) (one-turn _ _)
 

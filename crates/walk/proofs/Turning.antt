@@ -13,13 +13,12 @@ use Rattle.joins.specs.declared.JoinBoundary.{JoinBoundary}
 use Rattle.emission.specs.declared.Move.{Move}
 use Rattle.emission.specs.Steps.{Sheet, emits}
 use Rattle.emission.proofs.Emitted.{emits-append}
-use Rattle.walk.specs.declared.Walker.{Walker}
 use Rattle.walk.specs.Walk.{spanMove, connectorMoves, joinAt, walk}
-use Rattle.walk.specs.Steps.{walkerAt, turnOf, turned, Trail, advanced, advances, ends}
+use Rattle.walk.specs.Steps.{Standing, walkerAt, turnOf, turned, Trail, advanced, advances, ends}
 
 module _ (offset ε : Float) where
   -- the moves of a turn for each vertex
-  unfoldable pub turnMoves : List PlineVertex → Walker → List Move
+  unfoldable pub turnMoves : List PlineVertex → Standing → List Move
   turnMoves [] w = []
   turnMoves (c ∷ vs) w = turnOf w c offset ε .span ∷ turnOf w c offset ε .connector ∷ turnMoves vs (turnOf w c offset ε .walker)
 
@@ -29,12 +28,12 @@ module _ (offset ε : Float) where
   advances-moves [] r = refl
   advances-moves (c ∷ vs) r = advances-moves vs (advanced offset ε c r)
 
-  pub length-turns : (vs : List PlineVertex) (w : Walker) → length (turnMoves vs w) ≡ 2 * length vs
+  pub length-turns : (vs : List PlineVertex) (w : Standing) → length (turnMoves vs w) ≡ 2 * length vs
   unfolding turnMoves
   length-turns [] w = refl
   length-turns (c ∷ vs) w = let l = length-turns vs (turnOf w c offset ε .walker) in omega arith
 
-  pub numbered : (vs : List PlineVertex) (w : Walker) → turned offset ε vs w .source .0 ≡ w .source .0 + length vs
+  pub numbered : (vs : List PlineVertex) (w : Standing) → turned offset ε vs w .source .0 ≡ w .source .0 + length vs
   unfolding turned turnOf
   numbered [] w = omega arith
   numbered (c ∷ vs) w = let l = numbered vs (turnOf w c offset ε .walker) in omega arith
@@ -62,10 +61,10 @@ module _ (offset ε : Float) where
 
   -- ---- the rule's walk is the moves of the turns, and then the last ones
   module _ (last : ℕ → RawOffsetSeg → Float → List Move) where
-    abbrev lastOf : Walker → List Move
+    abbrev lastOf : Standing → List Move
     lastOf w = last (w .source .0) (w .current) (w .entry .«next_param»)
 
-    abbrev onward : List PlineVertex → Walker → List Move
+    abbrev onward : List PlineVertex → Standing → List Move
     onward vs w = turnMoves vs w ++ lastOf (turned offset ε vs w)
 
     pub walk-turns : (vs : List PlineVertex) (i : ℕ) (a b : PlineVertex) (e : JoinBoundary)

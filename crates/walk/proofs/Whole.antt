@@ -13,6 +13,7 @@ use Rattle.vectors.specs.declared.Vector2.{Vector2}
 use Rattle.segments.specs.declared.PlineVertex.{PlineVertex}
 use Rattle.segments.specs.declared.RawOffsetSeg.{RawOffsetSeg}
 use Rattle.segments.specs.Segment.{offsetSeg, startOf, endOf}
+use Rattle.segments.specs.Steps.{fullSeg}
 use Rattle.joins.specs.declared.JoinBoundary.{JoinBoundary}
 use Rattle.emission.specs.declared.Move.{Move}
 use Rattle.emission.specs.declared.Pen.{Pen}
@@ -30,21 +31,21 @@ use Rattle.refusals.proofs.Source.{count-vertices}
 use Rattle.refusals.proofs.Segments.{segments-closed, segments-open}
 use Rattle.walk.specs.declared.Walked.{Walked}
 use Rattle.walk.specs.Walk.{spanMove, connectorMove, connectorMoves, walk, openLast, closedLast, closingJoin, walkStart, walkMoves, loneCollapsed, drawingOf}
-use Rattle.walk.specs.Steps.{walkerAt, Trail, trail, advanced, advances, ends, firstAt, openEntry, stretch, aroundSource, Turns, Ready, startOfSource, movesOfSource, walkOfSource}
+use Rattle.walk.specs.Steps.{Fit, walkerAt, Stood, stood, Trail, trailOf, trail, advanced, advances, ends, firstAt, openEntry, stretch, aroundSource, Turns, Ready, startOfSource, movesOfSource, walkOfSource}
 use Rattle.walk.proofs.Turning.{advances-snoc, advances-one, walk-ends}
 use Rattle.walk.proofs.Stretches.{stretch-length, stretch-others, stretch-one}
-use Rattle.walk.proofs.Rounds.{turns-first, turns-after}
+use Rattle.walk.proofs.Rounds.{turns-first, rooms-left, turns-after}
 use Rattle.walk.proofs.Lengths.{open-length, closed-most, open-drawing, closed-drawing, drawing-fits}
 use Rattle.walk.proofs.Sources.{others, drawing-none, drawing-walk}
 
 module _ (offset ε : Float) (a b : PlineVertex) (vs : List PlineVertex) where
-  first-ends : (last : ℕ → RawOffsetSeg → Float → List Move) (j : JoinBoundary) (us : List PlineVertex) (bs : Buffers) {f w : Walked} {bs′ : Buffers} → f ≡ firstAt a b j offset
+  first-ends : (last : ℕ → RawOffsetSeg → Float → List Move) (j : JoinBoundary) (us : List PlineVertex) (bs : Buffers) (f w : Walked) {bs′ : Buffers} → stood f ≡ firstAt a b j offset
       → trail w bs′ ≡ advances offset ε us (trail f bs) → ends last ε (trail w bs′) ≡ emits ε (walk last offset ε 0 a b (j .«next_param») us) (sheet (penAt (j .«next_start»)) bs)
   unfolding firstAt
-  first-ends last j us bs hf ht = ap (ends last ε) (ht ∙ ap (λ (f : Walked). advances offset ε us (trail f bs)) hf) ∙ walk-ends offset ε last us 0 a b j _
+  first-ends last j us bs f w hf ht = ap (ends last ε) (ht ∙ ap (λ (x : Stood). advances offset ε us (trailOf x bs)) hf) ∙ walk-ends offset ε last us 0 a b j _
 
   -- ---- open
-  open-last : (w : Walked) (bs : Buffers) {m : Move} → m ≡ spanMove (w .walker .source .0) (w .walker .current) (w .walker .entry .«next_param») (endOf (w .walker .current)) one
+  open-last : (w : Walked) (bs : Buffers) {m : Move} → m ≡ spanMove (w .walker .source .0) (fullSeg (w .walker .current)) (w .walker .entry .«next_param») (endOf (fullSeg (w .walker .current))) one
       → emitted ε m (sheet (w .pen) bs) ≡ ends openLast ε (trail w bs)
   unfolding ends openLast emits
   open-last w bs h = rw h
@@ -54,12 +55,12 @@ module _ (offset ε : Float) (a b : PlineVertex) (vs : List PlineVertex) where
   unfolding walkMoves walkStart pick
   open-walk bs = refl
 
-  pub open-moves : (bs : Buffers) {first w : Walked} {m : Move} {bs′ : Buffers} {s : Sheet}
-      → first ≡ firstAt a b (openEntry a b offset) offset → trail w bs′ ≡ advances offset ε vs (trail first bs)
-      → m ≡ spanMove (w .walker .source .0) (w .walker .current) (w .walker .entry .«next_param») (endOf (w .walker .current)) one
+  pub open-moves : (bs : Buffers) (first w : Walked) {m : Move} {bs′ : Buffers} {s : Sheet}
+      → stood first ≡ firstAt a b (openEntry a b offset) offset → trail w bs′ ≡ advances offset ε vs (trail first bs)
+      → m ≡ spanMove (w .walker .source .0) (fullSeg (w .walker .current)) (w .walker .entry .«next_param») (endOf (fullSeg (w .walker .current))) one
       → s ≡ emitted ε m (sheet (w .pen) bs′)
       → s ≡ emits ε (walkMoves false offset ε a b vs) (sheet (penAt (walkStart false offset ε a b vs)) bs)
-  open-moves bs {w = w} {bs′ = bs′} hf ht hm hs = hs ∙ open-last w bs′ hm ∙ first-ends openLast (openEntry a b offset) vs bs hf ht ∙ open-walk bs
+  open-moves bs first w {bs′ = bs′} hf ht hm hs = hs ∙ open-last w bs′ hm ∙ first-ends openLast (openEntry a b offset) vs bs first w hf ht ∙ open-walk bs
 
   -- ---- closed
   closed-walk : (bs : Buffers)
@@ -72,24 +73,24 @@ module _ (offset ε : Float) (a b : PlineVertex) (vs : List PlineVertex) where
   unfolding firstAt walkerAt
   first-entry j = refl
 
-  pub closed-moves : (bs : Buffers) {first w : Walked} {bs′ : Buffers} {s : Sheet} → first ≡ firstAt a b (closingJoin offset ε a b vs) offset
+  pub closed-moves : (bs : Buffers) (first w : Walked) {bs′ : Buffers} {s : Sheet} → stood first ≡ firstAt a b (closingJoin offset ε a b vs) offset
       → trail w bs′ ≡ advances offset ε (vs ++ a ∷ []) (trail first bs) → s ≡ ends (closedLast (first .walker .entry) ε) ε (trail w bs′)
       → s ≡ emits ε (walkMoves true offset ε a b vs) (sheet (penAt (walkStart true offset ε a b vs)) bs)
-  closed-moves bs {w = w} {bs′ = bs′} hf ht hs =
+  closed-moves bs first w {bs′ = bs′} hf ht hs =
       let j = closingJoin offset ε a b vs in
-      let e = ap (λ (f : Walked). f .walker .entry) hf ∙ first-entry j in
-      hs ∙ ap (λ (k : JoinBoundary). ends (closedLast k ε) ε (trail w bs′)) e ∙ first-ends (closedLast j ε) j (vs ++ a ∷ []) bs hf ht ∙ closed-walk bs
+      let e = ap (λ (x : Stood). x .walker .entry) hf ∙ first-entry j in
+      hs ∙ ap (λ (k : JoinBoundary). ends (closedLast k ε) ε (trail w bs′)) e ∙ first-ends (closedLast j ε) j (vs ++ a ∷ []) bs first w hf ht ∙ closed-walk bs
 
 -- the last moves, as the code does them
 module _ (ε : Float) (w : Walked) (bs : Buffers) (j : JoinBoundary) {s : Sheet} where
   pub ends-folded : {m : Move} → near (j .«current_end») (j .«next_start») ε ≡ true
-      → m ≡ spanMove (w .walker .source .0) (w .walker .current) (w .walker .entry .«next_param») (j .«next_start») (j .«current_param»)
+      → m ≡ spanMove (w .walker .source .0) (fullSeg (w .walker .current)) (w .walker .entry .«next_param») (j .«next_start») (j .«current_param»)
       → s ≡ emitted ε m (sheet (w .pen) bs) → s ≡ ends (closedLast j ε) ε (trail w bs)
   unfolding ends closedLast pick emits
   ends-folded h hm hs = rw h (hs ∙ rw hm)
 
   pub ends-connected : {m c : Move} → near (j .«current_end») (j .«next_start») ε ≡ false
-      → m ≡ spanMove (w .walker .source .0) (w .walker .current) (w .walker .entry .«next_param») (j .«current_end») (j .«current_param»)
+      → m ≡ spanMove (w .walker .source .0) (fullSeg (w .walker .current)) (w .walker .entry .«next_param») (j .«current_end») (j .«current_param»)
       → c ≡ connectorMove (w .walker .source .0) j → s ≡ emitted ε c (emitted ε m (sheet (w .pen) bs)) → s ≡ ends (closedLast j ε) ε (trail w bs)
   unfolding ends closedLast connectorMoves pick emits
   ends-connected h hm hc hs = rw h (hs ∙ rw (hm, hc))
@@ -125,14 +126,14 @@ module _ (offset ε : Float) (s : List Float) (v room : ℕ) (old : Buffers) (re
 -- ---- room on the way
 -- at the first segment there is room for n turns, two places each
 pub first-turns : (n room : ℕ) (a b : PlineVertex) (j : JoinBoundary) (offset : Float) {f : Walked} {bs : Buffers}
-    → f ≡ firstAt a b j offset → 2 * n ≤ room → Within room 0 0 0 bs → Turns n f bs
+    → Fit (f .walker) → stood f ≡ firstAt a b j offset → 2 * n ≤ room → Within room 0 0 0 bs → Turns n f bs
 unfolding firstAt walkerAt
-first-turns n room a b j offset hf l r = turns-first n room (j .«next_start») (ap (λ (f : Walked). f .walker .source .0) hf) (ap (λ (f : Walked). f .pen) hf) l r
+first-turns n room a b j offset fit hf l r = turns-first n room (j .«next_start») fit (ap (λ (x : Stood). x .walker .source .0) hf) (ap (λ (x : Stood). x .pen) hf) l r
 
 -- after the turns to the others there is room for t turns more
 pub turns-left : (offset ε : Float) (t : ℕ) (s : List Float) (v : ℕ) {f w : Walked} {bs bs′ : Buffers} → 3 * v ≡ length s → 2 ≤ v
-    → trail w bs′ ≡ advances offset ε (stretch 2 v s) (trail f bs) → Alike bs bs′ → Turns (v - 2 + t) f bs → Turns t w bs′
-turns-left offset ε t s v long two h al r = turns-after offset ε t (v - 2 + t) (stretch 2 v s) h al (omega (arith, stretch-length s 2 v two (omega arith))) r
+    → trail w bs′ ≡ advances offset ε (stretch 2 v s) (trail f bs) → Alike bs bs′ → Turns (v - 2 + t) f bs → Fit (w .walker) → Turns t w bs′
+turns-left offset ε t s v {f} {w} long two h al r fit = turns-after offset ε t (v - 2 + t) (stretch 2 v s) f w h al (omega (arith, stretch-length s 2 v two (omega arith))) r fit
 
 pub turns-others : (offset ε : Float) (s : List Float) (v : ℕ) → 3 * v ≡ length s → (r : Trail) {r′ : Trail} → r′ ≡ advances offset ε (stretch 2 v s) r
     → r′ ≡ advances offset ε (drop 2 (verticesOf s)) r
@@ -147,10 +148,10 @@ module _ (offset ε : Float) (s : List Float) (v : ℕ) (long : 3 * v ≡ length
       ∙ ap (advanced offset ε (vertexOf s 0)) (turns-others offset ε s v long r h)
       ∙ sym (advances-snoc offset ε (drop 2 (verticesOf s)) (vertexOf s 0) r)
 
-  pub closing-rooms : {f w : Walked} {bs bs′ : Buffers} → trail w bs′ ≡ advances offset ε (aroundSource s) (trail f bs) → Alike bs bs′ → Turns v f bs → Rooms 2 (w .pen) bs′
-  closing-rooms h a r =
+  pub closing-rooms : (f w : Walked) {bs bs′ : Buffers} → trail w bs′ ≡ advances offset ε (aroundSource s) (trail f bs) → Alike bs bs′ → Turns v f bs → Rooms 2 (w .pen) bs′
+  closing-rooms f w h a r =
       let n = others s v long two in
-      turns-after offset ε 1 v (aroundSource s) h a (omega (arith, length-append (drop 2 (verticesOf s)) (vertexOf s 0 ∷ []))) r .rooms
+      rooms-left offset ε 1 v (aroundSource s) f w h a (omega (arith, length-append (drop 2 (verticesOf s)) (vertexOf s 0 ∷ []))) r
 
 pub room-closed : {closed : Bool} {room : ℕ} (v : ℕ) → 2 ≤ v → closed ≡ true → room ≡ 2 * segmentsOf closed v → room ≡ 2 * v
 room-closed v two h r = r ∙ rw (h, segments-closed v two)

@@ -12,5 +12,5 @@ classify-join-spec =
     (tie.spec
     (λ c κs. tt) (λ c κs. tt) (λ c κs. tt)
     (λ c. yes _ _ _ (tested (c .if1 .taken) (simp (c .before .fuzzy-eq-eps .ensures, c .before .before .start .ensures, c .before .before .before .end .ensures))) refl)
-    (λ c κs. tt) (λ c κs. tt) (λ c κs. tt)
+    (λ c κs. c .before .before .before .before .pre .0) (λ c κs. c .before .before .before .before .before .pre .1) (λ c κs. tt)
     (λ c. no _ _ _ (tested (c .before .before .before .if1 .left) (simp (c .before .before .before .before .fuzzy-eq-eps .ensures, c .before .before .before .before .before .start .ensures, c .before .before .before .before .before .before .end .ensures))) (simp (c .tangent-cause .ensures, c .before .start-tangent .ensures, c .before .before .end-tangent .ensures))))

@@ -1,12 +1,26 @@
+use mathlib.Core.Path.{subst}
 use borrow.Author.Needs.{needs}
+use Rattle.segments.specs.declared.RawOffsetSeg.the-variants.{Arc}
+use Rattle.segments.specs.Steps.{fullSeg}
+use Rattle.meetings.specs.declared.SeenArc.{SeenArc}
+use Rattle.meetings.specs.Steps.{angled}
+use Rattle.joins.specs.Join.{innerJoin}
+use Rattle.joins.specs.Steps.{Joins}
+use Rattle.joins.proofs.Seen.{unseen-joins}
 use Rattle.joins.proofs.inner_join.Statement.{statement}
 use Rattle.joins.proofs.inner_join.Tie as tie
+
+returns-2 : tie.Need-returns-2
+returns-2 c =
+    let a = c .before .before .before .before .before .args in
+    rw (c .before .before .before .current2 .given .1)
+    (subst (λ (x : SeenArc). Joins (c .join-from-arc .result) (innerJoin (Arc (angled x)) (fullSeg (a .next)) (a .shared-source-vertex) (a .eps)) (a .next)) (c .before .seen-arc .ensures) (c .join-from-arc .ensures))
 
 pub inner-join-spec : {M : Type 1} → statement M
 inner-join-spec =
     tie.close
     (tie.spec
-    (λ c. search needs) (λ c κs. tt) (λ c. search needs) (λ c κs. tt) (λ c. search needs) (λ c κs. tt) (λ c κs. tt)
+    (λ c. search needs) (λ c κs. tt) (λ c. search needs) (λ c κs. tt) (λ c κs. tt) (λ c. search needs) (λ c κs. tt) (λ c κs. tt) (λ c κs. tt)
     (λ c. rw (c .before .before .current .given .1) (c .join-from-line .ensures))
-    (λ c. rw (c .before .before .current2 .given .1) (c .join-from-arc .ensures))
-    (λ c. rw (c .before .before .before .current3 .given .1) (simp (c .inner-gap .ensures, c .before .start .ensures))))
+    returns-2
+    (λ c. rw (c .before .before .before .before .current3 .given .1) (unseen-joins _ (c .unseen .ensures) (simp (c .before .inner-gap .ensures, c .before .before .start .ensures)))))

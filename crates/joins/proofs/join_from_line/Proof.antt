@@ -1,12 +1,30 @@
+use mathlib.Core.Path.{ap, _∙_}
 use borrow.Author.Needs.{needs}
+use Rattle.segments.specs.declared.RawOffsetArc.{RawOffsetArc}
+use lib.Ieee.{Float}
+use Rattle.meetings.specs.Meetings.{lineArcMeeting}
+use Rattle.joins.specs.Steps.{seenArc}
+use Rattle.joins.proofs.Seen.{unseen-joins, arc-joins}
 use Rattle.joins.proofs.join_from_line.Statement.{statement}
 use Rattle.joins.proofs.join_from_line.Tie as tie
+
+returns : tie.Need-returns
+returns c = rw (c .before .before .before .before .next .given .1) (unseen-joins _ (c .unseen .ensures) (simp (c .before .trimmed-or-gap .ensures, c .before .before .line-line-meeting .ensures)))
+
+returns-2 : tie.Need-returns-2
+returns-2 c =
+    let start = c .before .before .before .before .before .before .before in
+    let arc = c .before .before .before .before .before .next2 .given .0 .0 in
+    let unknown = c .before .before .seen-arc .ensures ∙ ap (λ (s : Float). seenArc s arc) (c .before .before .before .not-seen .ensures) in
+    rw (c .before .before .before .before .before .next2 .given .1)
+    (arc-joins arc (λ (x : RawOffsetArc). lineArcMeeting (start .args .current) x (start .args .shared-source-vertex) (start .args .eps)) _ unknown (c .before .line-arc-meeting .ensures) (c .trimmed-or-gap2 .ensures))
+
+returns-3 : tie.Need-returns-3
+returns-3 c = rw (c .before .before .before .next3 .given .1) (unseen-joins _ (c .unseen2 .ensures) (c .before .inner-gap .ensures))
 
 pub join-from-line-spec : {M : Type 1} → statement M
 join-from-line-spec =
     tie.close
     (tie.spec
-    (λ c. search needs) (λ c κs. tt) (λ c κs. tt) (λ c. search needs) (λ c κs. tt) (λ c κs. tt) (λ c. search needs) (λ c κs. tt)
-    (λ c. rw (c .before .before .before .next .given .1) (simp (c .trimmed-or-gap .ensures, c .before .line-line-meeting .ensures)))
-    (λ c. rw (c .before .before .before .next2 .given .1) (simp (c .trimmed-or-gap2 .ensures, c .before .line-arc-meeting .ensures)))
-    (λ c. rw (c .before .before .next3 .given .1) (c .inner-gap .ensures)))
+    (λ c. search needs) (λ c κs. tt) (λ c κs. tt) (λ c κs. tt) (λ c. search needs) (λ c κs. tt) (λ c κs. tt) (λ c κs. tt) (λ c κs. tt) (λ c. search needs) (λ c κs. tt) (λ c κs. tt)
+    returns returns-2 returns-3)

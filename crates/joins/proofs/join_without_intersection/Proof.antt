@@ -9,7 +9,7 @@ unfolding rounded
 join-without-intersection-spec =
     tie.close
     (tie.spec
-    (λ c κs. tt) (λ c κs. tt) (λ c κs. tt) (λ c. search needs) (λ c κs. tt) (λ c. search needs) (λ c κs. tt) (λ c. search needs) (λ c κs. tt)
+    (λ c κs. tt) (λ c κs. tt) (λ c κs. c .before .before .pre) (λ c. search needs) (λ c κs. tt) (λ c. search needs) (λ c κs. tt) (λ c. search needs) (λ c κs. tt)
     (λ c. search needs) (λ c κs. tt) (λ c κs. tt) (λ c. search needs) (λ c κs. tt) (λ c κs. tt) (λ c. search needs)
     (λ c. rw (sym (c .before .before .before .classify-join .ensures) ∙ c .before .enum-told .given .1) (simp (c .straight .ensures, c .before .before .before .before .before .end .ensures)))
     (λ c. rw (sym (c .before .before .before .classify-join .ensures) ∙ c .before .enum-told2 .given .1) (simp (c .degenerate-gap .ensures, c .before .before .before .before .start .ensures, c .before .before .before .before .before .end .ensures)))

@@ -1,9 +1,18 @@
 use Rattle.meetings.specs.Params.{usableArcParam}
 use Rattle.meetings.specs.Meetings.{arcArcCandidate}
 use Rattle.meetings.specs.Steps.{arcParamAt}
+use Rattle.meetings.proofs.Starts.{remembered}
 use Rattle.meetings.proofs.arc_arc_candidate.Statement.{statement}
 use Rattle.meetings.proofs.arc_arc_candidate.Tie as tie
 
-pub arc-arc-candidate-spec : {M : Type 1} → statement M
+returns : tie.Need-returns
 unfolding arcArcCandidate usableArcParam arcParamAt
-arc-arc-candidate-spec = tie.close (tie.spec (λ c κs. tt) (λ c κs. tt) (λ c κs. tt) (λ c κs. tt) (λ c κs. tt) (λ c κs. tt) (λ c κs. tt) (λ c. simp (c .met-where .ensures, c .before .param2 .ensures, c .before .before .arc-param-at2 .ensures, c .before .before .before .param .ensures, c .before .before .before .before .arc-param-at .ensures, c .before .before .before .before .before .angles-from .ensures, c .before .before .before .before .before .before .arc-arc-point .ensures)))
+returns c =
+    let s = c .before .before .before .before .before in
+    record {
+      met = simp (c .met-where .ensures, c .before .param2 .ensures, c .before .before .arc-param-at2 .ensures, c .before .before .before .param .ensures, c .before .before .before .before .arc-param-at .ensures, s .starts-and-point .ensures, s .before .arc-arc-point .ensures);
+      seen = remembered (s .before .before .args .next) (rw (s .starts-and-point .ensures));
+    }
+
+pub arc-arc-candidate-spec : {M : Type 1} → statement M
+arc-arc-candidate-spec = tie.close (tie.spec (λ c κs. tt) (λ c κs. tt) (λ c κs. rw (c .starts-and-point .ensures)) (λ c κs. tt) (λ c κs. rw (c .before .before .starts-and-point .ensures)) (λ c κs. tt) (λ c κs. tt) returns)

@@ -5,4 +5,4 @@ use Rattle.meetings.proofs.usable_arc_param.Tie as tie
 
 pub usable-arc-param-spec : {M : Type 1} → statement M
 unfolding usableArcParam arcParamAt
-usable-arc-param-spec = tie.close (tie.spec (λ c κs. tt) (λ c κs. tt) (λ c. rw (← c .before .angle .ensures) (c .arc-param-at .ensures)))
+usable-arc-param-spec = tie.close (tie.spec (λ c κs. tt) (λ c κs. rw (c .start-and-point .ensures)) (λ c. simp (c .arc-param-at .ensures, c .before .start-and-point .ensures)))

@@ -1,7 +1,15 @@
-use mathlib.Core.Path.{refl}
-use borrow.Author.Needs.{needs}
+use Rattle.meetings.specs.Params.{usableArcParam}
+use Rattle.meetings.specs.Steps.{arcParamAt}
+use Rattle.meetings.proofs.Starts.{remembered}
 use Rattle.meetings.proofs.with_arc_param.Statement.{statement}
 use Rattle.meetings.proofs.with_arc_param.Tie as tie
 
+returns : tie.Need-returns
+unfolding usableArcParam arcParamAt
+returns c = record {
+  met = simp (c .met-where .ensures, c .before .param .ensures, c .before .before .arc-param-at .ensures, c .before .before .before .start-and-point .ensures);
+  seen = remembered (c .before .before .before .before .args .arc) (rw (c .before .before .before .start-and-point .ensures));
+}
+
 pub with-arc-param-spec : {M : Type 1} → statement M
-with-arc-param-spec = tie.close (tie.spec (λ c κs. tt) (λ c κs. tt) (λ c. search needs) (λ c. search needs) (λ c. rw (← c .before .before .before .before .usable-arc-param .ensures, ← c .before .before .before .param .ensures, c .before .param2 .given .1) refl) (λ c. rw (← c .before .before .before .usable-arc-param .ensures, ← c .before .before .param .ensures, c .enum-told .given .1) refl))
+with-arc-param-spec = tie.close (tie.spec (λ c κs. tt) (λ c κs. rw (c .start-and-point .ensures)) (λ c κs. tt) (λ c κs. tt) returns)

@@ -17,13 +17,13 @@ emit-turns-requires-2 c κs =
     let r = c .before .before .before .before .before .before .before .before .before .emit-turns in
     let two = p .0 .1 in (
       (omega arith, omega (arith, p .0 .0)),
-      turns-left _ _ 1 _ _ (p .0 .0) two (r .ensures) (record { vertices = r .kept .1 .1 .1 .1 .1 .1 .0; flags = r .kept .1 .1 .1 .1 .1 .1 .1 .0; indexes = r .kept .1 .1 .1 .1 .1 .1 .1 .1 .0 }) (turns-fewer (omega arith) (p .1)),
+      turns-left _ _ 1 _ _ (p .0 .0) two (r .ensures .0) (record { vertices = r .kept .1 .1 .1 .1 .1 .1 .0; flags = r .kept .1 .1 .1 .1 .1 .1 .1 .0; indexes = r .kept .1 .1 .1 .1 .1 .1 .1 .1 .0 }) (turns-fewer (omega arith) (p .1)) (r .ensures .1),
     )
 
 returns : tie.Need-returns
 returns c =
     let p = c .before .before .before .before .before .before .before .before .before .before .before .before .before .before .before .before .before .before .before .before .before .before .before .before .pre in
-    turns-around _ _ _ _ (p .0 .0) (p .0 .1) _ (c .before .before .before .before .before .before .before .before .before .before .before .before .before .before .before .before .emit-turns .ensures) (c .before .before .before .before .before .before .emit-turns2 .ensures)
+    turns-around _ _ _ _ (p .0 .0) (p .0 .1) _ (c .before .before .before .before .before .before .before .before .before .before .before .before .before .before .before .before .emit-turns .ensures .0) (c .before .before .before .before .before .before .emit-turns2 .ensures .0)
 
 pub emit-around-spec : {M : Type 1} → statement M
 emit-around-spec = tie.close (tie.spec emit-turns-requires emit-turns-requires-2 (λ c. search needs) (λ c. search needs) (λ c. search needs) returns)

@@ -23,7 +23,7 @@ returns-3 c =
     let p = c .before .before .before .before .before .pre in
     let two = p .1 in
     rw (c .before .before .before .if1 .left)
-    (c .is-collapsed .ensures ∙ rw (open-current _ _ _ (omega (arith, p .0)) (c .before .lead-in .ensures)) (pair-alone _ _ (p .0) (p .1) _ (c .before .before .if2 .left)))
+    (c .is-collapsed .ensures ∙ rw (open-current _ _ _ (omega (arith, p .0)) (c .before .lead-in .ensures .0)) (pair-alone _ _ (p .0) (p .1) _ (c .before .before .if2 .left)))
 
 pub lone-collapsed-spec : {M : Type 1} → statement M
 lone-collapsed-spec = tie.close (tie.spec returns returns-2 lead-in-requires (λ c κs. tt) returns-3)

@@ -3,6 +3,9 @@ use Rattle.walk.specs.Steps.{entering}
 use Rattle.walk.proofs.Walker.entering.Statement.{statement}
 use Rattle.walk.proofs.Walker.entering.Tie as tie
 
-pub entering-spec : {M : Type 1} → statement M
+returns : tie.Need-returns
 unfolding entering
-entering-spec = tie.close (tie.spec (λ c κs. tt) (λ c. cc))
+returns c = (cc, λ fit. record { marked = fit .marked; seen = fit .seen })
+
+pub entering-spec : {M : Type 1} → statement M
+entering-spec = tie.close (tie.spec (λ c κs. tt) returns)

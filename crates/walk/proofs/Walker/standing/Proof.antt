@@ -1,8 +1,12 @@
 -- `walk::Walker::standing` meets its contract. Assumes nothing.
+use mathlib.Core.Path.{refl}
 use Rattle.walk.specs.Steps.{standing}
 use Rattle.walk.proofs.Walker.standing.Statement.{statement}
 use Rattle.walk.proofs.Walker.standing.Tie as tie
 
-pub standing-spec : {M : Type 1} → statement M
+returns : tie.Need-returns
 unfolding standing
-standing-spec = tie.close (tie.spec (λ c κs. tt) (λ c κs. tt) (λ c. cc))
+returns c = (cc, record { marked = refl; seen = refl })
+
+pub standing-spec : {M : Type 1} → statement M
+standing-spec = tie.close (tie.spec (λ c κs. tt) (λ c κs. tt) (λ c κs. tt) returns)

@@ -1,6 +1,6 @@
 use Rattle.segments.specs.Segment.{tangentAt}
-use Rattle.segments.proofs.RawOffsetArc.tangent_at.Statement.{statement}
-use Rattle.segments.proofs.RawOffsetArc.tangent_at.Tie as tie
+use Rattle.segments.proofs.CarriedArc.tangent_at.Statement.{statement}
+use Rattle.segments.proofs.CarriedArc.tangent_at.Tie as tie
 
 pub tangent-at-spec : {M : Type 1} → statement M
 unfolding tangentAt

@@ -1,0 +1,35 @@
+-- `atan_three` meets its contract. Assumes nothing.
+use Rattle.angles.proofs.Steps.{atan-steps}
+use Rattle.angles.proofs.atan_three.Statement.{statement}
+use Rattle.angles.proofs.atan_three.Tie as tie
+
+returns : tie.Need-returns
+returns c =
+    let third = c .before .before .before .before .before .before in
+    let second = third .before .before .before in
+    let first = second .before .before .before in
+    let start = first .before .before .before .before .before .before in
+    simp (
+      c .restored3 .ensures,
+      c .before .series3 .ensures,
+      c .before .before .restored2 .ensures,
+      c .before .before .before .series2 .ensures,
+      c .before .before .before .before .restored .ensures,
+      c .before .before .before .before .before .series .ensures,
+      third .halve9 .ensures,
+      third .before .halve8 .ensures,
+      third .before .before .halve7 .ensures,
+      second .halve6 .ensures,
+      second .before .halve5 .ensures,
+      second .before .before .halve4 .ensures,
+      first .halve3 .ensures,
+      first .before .halve2 .ensures,
+      first .before .before .halve .ensures,
+      start .reduced3 .ensures,
+      start .before .reduced2 .ensures,
+      start .before .before .reduced .ensures,
+      atan-steps,
+    )
+
+pub atan-three-spec : {M : Type 1} → statement M
+atan-three-spec = tie.close (tie.spec (λ c κs. tt) (λ c κs. tt) (λ c κs. tt) (λ c κs. tt) (λ c κs. tt) (λ c κs. tt) (λ c κs. tt) (λ c κs. tt) (λ c κs. tt) (λ c κs. tt) (λ c κs. tt) (λ c κs. tt) (λ c κs. tt) (λ c κs. tt) (λ c κs. tt) (λ c κs. tt) (λ c κs. tt) (λ c κs. tt) (λ c κs. tt) (λ c κs. tt) (λ c κs. tt) returns)

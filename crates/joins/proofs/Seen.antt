@@ -1,0 +1,78 @@
+-- What a join has seen of a start angle changes nothing: the arc with it is the rules' arc, and only an inner join looks at it. Assumes nothing.
+use mathlib.Core.Path.{_≡_, refl, ap, _∙_}
+use lib.Ieee.{Float, ofBits, div, eq}
+use Rattle.floats.specs.Choice.{pick}
+use Rattle.vectors.specs.declared.Vector2.{Vector2}
+use Rattle.segments.specs.declared.RawOffsetArc.{RawOffsetArc}
+use Rattle.segments.specs.declared.RawOffsetSeg.{RawOffsetSeg}
+use Rattle.segments.specs.declared.RawOffsetSeg.the-variants as Full
+use Rattle.segments.specs.declared.CarriedArc.{CarriedArc}
+use Rattle.segments.specs.declared.CarriedSeg.{CarriedSeg}
+use Rattle.segments.specs.declared.CarriedSeg.the-variants.{Line, Arc, Collapsed}
+use Rattle.segments.specs.Segment.{endOf, endTangent, tangentAt}
+use Rattle.segments.specs.Steps.{fullArc, fullSeg}
+use Rattle.meetings.specs.declared.Met.{Met}
+use Rattle.meetings.specs.declared.SeenArc.{SeenArc}
+use Rattle.meetings.specs.declared.SeenMet.{SeenMet}
+use Rattle.meetings.specs.Steps.{notSeen, startAngle, angled, Shows}
+use Rattle.joins.specs.declared.JoinCause.{JoinCause}
+use Rattle.joins.specs.declared.JoinCause.the-variants.{Coincident, ZeroTangent, SameDirection, Reversal, Outer, Inner}
+use Rattle.joins.specs.declared.JoinBoundary.{JoinBoundary}
+use Rattle.joins.specs.declared.Joined.{Joined}
+use Rattle.joins.specs.Join.{causeOf, trimmedBy, innerJoin, joinOf}
+use Rattle.joins.specs.Steps.{settledBy, orElseJoin, seenArc, seenSeg, joined, Joins}
+use Rattle.joins.proofs.Settling.{settled-or-inner}
+
+-- ---- what is not known is worked out
+arc-unseen : (a : CarriedArc) → angled (seenArc notSeen a) ≡ fullArc a
+unfolding startAngle notSeen pick ofBits div eq
+arc-unseen a = refl
+
+arc-seen : (a : CarriedArc) (s : Float) → startAngle (seenArc s a) ≡ startAngle (seenArc notSeen a) → angled (seenArc s a) ≡ fullArc a
+arc-seen a s h =
+    ap (λ (φ : Float). record { start = a .start; end = a .end; center = a .center; radius = a .radius; «start_angle» = φ; sweep = a .sweep }) h ∙ arc-unseen a
+
+seg-unseen : (g : CarriedSeg) → seenSeg notSeen g ≡ fullSeg g
+seg-unseen (Line l) = refl
+seg-unseen (Arc a) = ap Full.Arc (arc-unseen a)
+seg-unseen (Collapsed a) = refl
+
+-- ---- the two ways in which a join ends
+pub unseen-joins : (g : CarriedSeg) {r : Joined} {b b′ : JoinBoundary} → r ≡ joined b notSeen → b ≡ b′ → Joins r b′ g
+unseen-joins g h e = record { boundary = ap (λ (r : Joined). r .boundary) h ∙ e; seen = ap (λ (r : Joined). seenSeg (r .seen) g) h ∙ seg-unseen g }
+
+pub arc-joins : (a : CarriedArc) (meet : RawOffsetArc → Met) (end : Vector2) {u : SeenArc} {shown : SeenMet} {b : JoinBoundary}
+    → u ≡ seenArc notSeen a → Shows shown (meet (angled u)) u → b ≡ trimmedBy (shown .met) end (a .start) → Joins (joined b (shown .seen)) (trimmedBy (meet (fullArc a)) end (a .start)) (Arc a)
+arc-joins a meet end {u} {shown} hu h e =
+    let known = rw hu at h in
+    record { boundary = e ∙ ap (λ (m : Met). trimmedBy m end (a .start)) (known .met ∙ ap meet (arc-unseen a)); seen = ap Full.Arc (arc-seen a (shown .seen) (known .seen)) }
+
+-- ---- only an inner join looks at the start angle
+module _ (s : Float) where
+  end-seen : (g : CarriedSeg) → endOf (seenSeg s g) ≡ endOf (fullSeg g)
+  end-seen (Line l) = refl
+  end-seen (Arc a) = refl
+  end-seen (Collapsed a) = refl
+
+  end-tangent-seen : (g : CarriedSeg) → endTangent (seenSeg s g) ≡ endTangent (fullSeg g)
+  unfolding tangentAt
+  end-tangent-seen (Line l) = refl
+  end-tangent-seen (Arc a) = refl
+  end-tangent-seen (Collapsed a) = refl
+
+  cause-seen : (g : CarriedSeg) (h : RawOffsetSeg) (offset ε : Float) → causeOf (seenSeg s g) h offset ε ≡ causeOf (fullSeg g) h offset ε
+  unfolding causeOf
+  cause-seen g h offset ε = rw (end-seen g, end-tangent-seen g)
+
+  settled-seen : (c : JoinCause) (g : CarriedSeg) (h : RawOffsetSeg) (shared : Vector2) (offset ε : Float) → settledBy c (seenSeg s g) h shared offset ε ≡ settledBy c (fullSeg g) h shared offset ε
+  settled-seen Coincident g h shared offset ε = rw (end-seen g)
+  settled-seen ZeroTangent g h shared offset ε = rw (end-seen g)
+  settled-seen SameDirection g h shared offset ε = rw (end-seen g)
+  settled-seen Reversal g h shared offset ε = rw (end-seen g)
+  settled-seen Outer g h shared offset ε = rw (end-seen g)
+  settled-seen Inner g h shared offset ε = refl
+
+  pub join-seen : (g : CarriedSeg) (h : RawOffsetSeg) (shared : Vector2) (offset ε : Float)
+      → joinOf (seenSeg s g) h shared offset ε ≡ orElseJoin (settledBy (causeOf (fullSeg g) h offset ε) (fullSeg g) h shared offset ε) (innerJoin (seenSeg s g) h shared ε)
+  unfolding joinOf
+  join-seen g h shared offset ε = settled-or-inner (causeOf (seenSeg s g) h offset ε) (seenSeg s g) h shared offset ε ∙ rw (cause-seen g h offset ε, settled-seen (causeOf (fullSeg g) h offset ε) g h shared offset ε)

@@ -1,6 +1,0 @@
-use borrow.Author.Needs.{needs}
-use Rattle.segments.proofs.RawOffsetSeg.end_tangent.Statement.{statement}
-use Rattle.segments.proofs.RawOffsetSeg.end_tangent.Tie as tie
-
-pub end-tangent-spec : {M : Type 1} → statement M
-end-tangent-spec = tie.close (tie.spec (λ c. search needs) (λ c κs. tt) (λ c. search needs) (λ c κs. tt) (λ c. search needs) (λ c. rw (c .before .before .self .given .1) (c .sub .ensures)) (λ c. rw (c .before .before .self2 .given .1) (c .tangent-at .ensures)) (λ c. search needs))
