@@ -2,7 +2,9 @@
 // is sixteen words of eight bytes, highest byte first: the number of a function, then the bits of
 // its arguments. The stored output comes from 01's arithmetic in Rust (`oracle`, `samples`).
 ghost use Prim.Native.Nat.{_<_};
+use angles::Four;
 use angles::Pair;
+use angles::Three;
 use intersections::CircleCircleIntr;
 use intersections::LineCircleIntr;
 use intersections::LineLineIntr;
@@ -177,14 +179,35 @@ fn print_pair(name: &[u8], pair: Pair) {
     print_number(pair.second);
 }
 
-fn pair_row(function: u64, row: &[u8; 128]) {
+fn print_three(name: &[u8], three: Three) {
+    print_named(name, three.first);
+    print_number(three.second);
+    print_number(three.third);
+}
+
+fn print_four(name: &[u8], four: Four) {
+    print_named(name, four.first);
+    print_number(four.second);
+    print_number(four.third);
+    print_number(four.fourth);
+}
+
+// Angles and sweeps that are worked out side by side.
+fn together_row(function: u64, row: &[u8; 128]) {
     let a = vector(row, 1);
     let b = vector(row, 3);
+    let c = vector(row, 5);
+    let d = vector(row, 7);
     match function {
-        12 => print_pair(b"angles_from", angles::angles_from(a, b, vector(row, 5))),
+        12 => print_pair(b"two_angles", angles::two_angles(a, b, c)),
+        13 => print_three(b"three_angles", angles::three_angles(a, b, c, d)),
+        14 => print_four(
+            b"four_angles",
+            angles::four_angles(a, b, c, d, vector(row, 9)),
+        ),
         _ => print_pair(
-            b"angle_and_sweep",
-            angles::angle_and_sweep(a, b, number(row, 5)),
+            b"two_sweeps",
+            angles::two_sweeps(number(row, 1), number(row, 2)),
         ),
     }
 }
@@ -201,7 +224,7 @@ fn answer() -> bool {
     } else if function < 12 {
         intersection_row(function, &row);
     } else {
-        pair_row(function, &row);
+        together_row(function, &row);
     }
     print(b"\n");
     true

@@ -23,6 +23,20 @@ const QUARTER: f64 = SQRT_2 - 1.0;
 /// Where angles are taken from.
 const CENTERS: [[f64; 2]; 2] = [[0.0, 0.0], [0.1, -7.5]];
 
+/// Spokes of huge, tiny and endless length.
+const FAR: [[f64; 2]; 10] = [
+    [f64::MAX, -f64::MAX],
+    [1e300, 1e-300],
+    [-1e-300, 1e300],
+    [TINY, TINY],
+    [-TINY, 0.0],
+    [-0.0, -TINY],
+    [-INF, 1.0],
+    [-2.0, -INF],
+    [INF, -INF],
+    [NAN, NAN],
+];
+
 /// A vertex, the point after it, and the offset.
 pub const SEGMENTS: [[f64; 6]; 26] = [
     [0.0, 0.0, 0.0, 4.0, 0.0, 1.0],
@@ -247,21 +261,74 @@ fn angles(rows: &mut Rows) {
             );
         }
     }
-    pairs(rows, &spokes, &ratios);
+    together(rows, &[spokes.as_slice(), &FAR].concat());
+    two_sweeps(rows, &ratios);
 }
 
-/// The end of each spoke seen from both centres, and beside a bulge's sweep. Spokes from the origin
-/// are not added to it, which would lose a −0.
-fn pairs(rows: &mut Rows, spokes: &[[f64; 2]], bulges: &[f64]) {
+/// Two, three and four angles that are worked out side by side: each spoke's end in each place of
+/// each function, beside the ends of others and beside itself.
+fn together(rows: &mut Rows, spokes: &[[f64; 2]]) {
     let [origin, other] = CENTERS;
-    for (s, bulge) in spokes.iter().zip(bulges.iter().cycle()) {
-        for (center, end) in [(origin, *s), (other, [other[0] + s[0], other[1] + s[1]])] {
-            let seen = |from: [f64; 2]| angle(point(&from), point(&end));
-            let inputs = [origin, other, end].concat();
-            rows.add("angles_from", &inputs, &words(&CENTERS.map(seen)));
-            let inputs = [center[0], center[1], end[0], end[1], *bulge];
-            let output = words(&[seen(center), angle_from_bulge(*bulge)]);
-            rows.add("angle_and_sweep", &inputs, &output);
+    for i in 0..spokes.len() {
+        for step in [0, 7] {
+            let [s, t, u] = [0, step, 2 * step].map(|k| spokes[(i + k) % spokes.len()]);
+            two_angles(rows, [origin, s, t]);
+            two_angles(rows, [other, beside(s), beside(t)]);
+            three_angles(rows, [origin, other, beside(s), t]);
+            four_angles(rows, [origin, s, other, beside(t), u]);
+        }
+    }
+    // Each centre at the other, and at the point and a start.
+    for c in CENTERS {
+        let p = [3.0, -2.0];
+        three_angles(rows, [c, c, p, p]);
+        three_angles(rows, [p, c, c, p]);
+        four_angles(rows, [c, p, c, p, p]);
+        four_angles(rows, [p, c, c, c, p]);
+        four_angles(rows, [c, c, p, c, c]);
+    }
+}
+
+/// The end of a spoke from the second centre. One from the origin is its own end: added to it, a −0
+/// would be lost.
+fn beside(spoke: [f64; 2]) -> [f64; 2] {
+    let [_, center] = CENTERS;
+    [center[0] + spoke[0], center[1] + spoke[1]]
+}
+
+fn seen(center: [f64; 2], end: [f64; 2]) -> f64 {
+    angle(point(&center), point(&end))
+}
+
+fn two_angles(rows: &mut Rows, at: [[f64; 2]; 3]) {
+    let [center, start, end] = at;
+    let output = words(&[seen(center, start), seen(center, end)]);
+    rows.add("two_angles", &at.concat(), &output);
+}
+
+fn three_angles(rows: &mut Rows, at: [[f64; 2]; 4]) {
+    let [center, other, start, end] = at;
+    let output = words(&[seen(center, end), seen(other, start), seen(other, end)]);
+    rows.add("three_angles", &at.concat(), &output);
+}
+
+fn four_angles(rows: &mut Rows, at: [[f64; 2]; 5]) {
+    let [center, start, other, other_start, end] = at;
+    let output = words(&[
+        seen(center, start),
+        seen(center, end),
+        seen(other, other_start),
+        seen(other, end),
+    ]);
+    rows.add("four_angles", &at.concat(), &output);
+}
+
+/// Each bulge beside itself and beside others, in either place.
+fn two_sweeps(rows: &mut Rows, bulges: &[f64]) {
+    for (i, bulge) in bulges.iter().enumerate() {
+        for step in [0, 7] {
+            let both = [*bulge, bulges[(i + step) % bulges.len()]];
+            rows.add("two_sweeps", &both, &words(&both.map(angle_from_bulge)));
         }
     }
 }

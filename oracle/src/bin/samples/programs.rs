@@ -31,8 +31,10 @@ const GEOMETRY: Program = Program {
         "line_line_intr",
         "line_circle_intr",
         "circle_circle_intr",
-        "angles_from",
-        "angle_and_sweep",
+        "two_angles",
+        "three_angles",
+        "four_angles",
+        "two_sweeps",
     ],
     rows: layers::rows,
 };
