@@ -8,6 +8,10 @@ use joins::JoinClass;
 use meetings::ArcParam;
 use meetings::Met;
 use meetings::Param;
+use meetings::Seen;
+use meetings::SeenArc;
+use meetings::SeenMet;
+use segments::CarriedSeg;
 use segments::PlineVertex;
 use segments::RawOffsetArc;
 use segments::RawOffsetLine;
@@ -68,17 +72,34 @@ fn line(row: &[u8; 192], k: usize) -> RawOffsetLine
     }
 }
 
-fn arc(row: &[u8; 192], k: usize) -> RawOffsetArc
+// An arc whose start angle counts only if it is known.
+fn seen_arc(row: &[u8; 192], k: usize, known: bool) -> SeenArc
     requires { ⌜ k < 16 ⌝ }
 {
-    RawOffsetArc {
+    SeenArc {
         start: vector(row, k),
         end: vector(row, k + 2),
         center: vector(row, k + 4),
         radius: number(row, k + 6),
-        start_angle: number(row, k + 7),
         sweep: number(row, k + 8),
+        seen: Seen {
+            known,
+            angle: number(row, k + 7),
+        },
     }
+}
+
+fn arc(row: &[u8; 192], k: usize) -> SeenArc
+    requires { ⌜ k < 16 ⌝ }
+{
+    seen_arc(row, k, true)
+}
+
+// A word that is 1.0 or 0.0.
+fn holds(row: &[u8; 192], k: usize) -> bool
+    requires { ⌜ k < 24 ⌝ }
+{
+    number(row, k) > 0.0
 }
 
 fn print(text: &[u8]) {
@@ -110,13 +131,12 @@ fn seg_arc_radius_and_center(row: &[u8; 192]) {
     print_vector(support.center);
 }
 
-// The offset segment of the words 1 to 6.
-fn segment(row: &[u8; 192]) -> RawOffsetSeg {
-    segments::create_untrimmed_raw_offset_seg(vertex(row, 1), end_vertex(row, 4), number(row, 6))
-}
-
 fn offset_segment(row: &[u8; 192]) {
-    let seg = segment(row);
+    let seg = segments::create_untrimmed_raw_offset_seg(
+        vertex(row, 1),
+        end_vertex(row, 4),
+        number(row, 6),
+    );
     print(b"offset_segment");
     match seg {
         RawOffsetSeg::Line(line) => {
@@ -148,14 +168,14 @@ fn print_arc(arc: RawOffsetArc) {
 }
 
 fn tangents(row: &[u8; 192]) {
-    let seg = segment(row);
+    let seg = CarriedSeg::anew(vertex(row, 1), end_vertex(row, 4), number(row, 6));
     print(b"tangents");
     print_vector(seg.start_tangent());
     print_vector(seg.end_tangent());
 }
 
 fn span(row: &[u8; 192]) {
-    let seg = segment(row);
+    let seg = CarriedSeg::anew(vertex(row, 1), end_vertex(row, 4), number(row, 6));
     let from = number(row, 7);
     let to = number(row, 8);
     print(b"span");
@@ -179,8 +199,12 @@ fn usable_line_param(row: &[u8; 192]) {
 }
 
 fn usable_arc_param(row: &[u8; 192]) {
-    let way = meetings::usable_arc_param(arc(row, 1), vector(row, 10), number(row, 12));
     print(b"usable_arc_param");
+    print_arc_param(row, arc(row, 1));
+}
+
+fn print_arc_param(row: &[u8; 192], arc: SeenArc) {
+    let way = meetings::usable_arc_param(arc, vector(row, 10), number(row, 12));
     print_way(way);
     print_param(way.param());
 }
@@ -221,32 +245,73 @@ fn line_line_meeting(row: &[u8; 192]) {
 
 fn line_arc_meeting(row: &[u8; 192]) {
     print(b"line_arc_meeting");
-    print_met(meetings::line_arc_meeting(
-        line(row, 1),
-        arc(row, 5),
-        vector(row, 14),
-        number(row, 16),
-    ));
+    let shown = line_arc(row, arc(row, 5));
+    let met = shown.met;
+    print_met(met);
+}
+
+fn line_arc(row: &[u8; 192], arc: SeenArc) -> SeenMet {
+    meetings::line_arc_meeting(line(row, 1), arc, vector(row, 14), number(row, 16))
 }
 
 fn arc_line_meeting(row: &[u8; 192]) {
     print(b"arc_line_meeting");
-    print_met(meetings::arc_line_meeting(
-        arc(row, 1),
-        line(row, 10),
-        vector(row, 14),
-        number(row, 16),
-    ));
+    print_met(arc_line(row, arc(row, 1)));
+}
+
+fn arc_line(row: &[u8; 192], arc: SeenArc) -> Met {
+    meetings::arc_line_meeting(arc, line(row, 10), vector(row, 14), number(row, 16))
 }
 
 fn arc_arc_meeting(row: &[u8; 192]) {
     print(b"arc_arc_meeting");
-    print_met(meetings::arc_arc_meeting(
-        arc(row, 1),
-        arc(row, 10),
-        vector(row, 19),
-        number(row, 21),
-    ));
+    let shown = arc_arc(row, arc(row, 1), arc(row, 10));
+    let met = shown.met;
+    print_met(met);
+}
+
+fn arc_arc(row: &[u8; 192], current: SeenArc, next: SeenArc) -> SeenMet {
+    meetings::arc_arc_meeting(current, next, vector(row, 19), number(row, 21))
+}
+
+// The same, where a word for each arc says whether its start angle is known. Then the start angle
+// that is handed back is printed too.
+fn seen_arc_param(row: &[u8; 192]) {
+    print(b"seen_arc_param");
+    print_arc_param(row, seen_arc(row, 1, holds(row, 13)));
+}
+
+fn seen_line_arc(row: &[u8; 192]) {
+    print(b"seen_line_arc");
+    print_shown(line_arc(row, seen_arc(row, 5, holds(row, 17))));
+}
+
+fn seen_arc_line(row: &[u8; 192]) {
+    print(b"seen_arc_line");
+    print_met(arc_line(row, seen_arc(row, 1, holds(row, 17))));
+}
+
+fn seen_arc_arc(row: &[u8; 192]) {
+    print(b"seen_arc_arc");
+    let current = seen_arc(row, 1, holds(row, 22));
+    let next = seen_arc(row, 10, holds(row, 23));
+    print_shown(arc_arc(row, current, next));
+}
+
+fn print_shown(shown: SeenMet) {
+    let met = shown.met;
+    print_met(met);
+    let seen = shown.seen;
+    print_seen(seen);
+}
+
+fn print_seen(seen: Seen) {
+    if seen.known {
+        print(b" seen");
+        print_number(seen.angle);
+    } else {
+        print(b" unseen");
+    }
 }
 
 fn round(row: &[u8; 192]) {
@@ -297,11 +362,32 @@ fn join(row: &[u8; 192]) {
     let shared = vertex(row, 4);
     let offset = number(row, 9);
     let eps = number(row, 10);
-    let current = segments::create_untrimmed_raw_offset_seg(vertex(row, 1), shared, offset);
-    let next = segments::create_untrimmed_raw_offset_seg(shared, end_vertex(row, 7), offset);
+    let current = CarriedSeg::anew(vertex(row, 1), shared, offset);
+    let next = CarriedSeg::anew(shared, end_vertex(row, 7), offset);
+    let cause = joins::classify_join(current, next, offset, eps);
+    let joined = joins::analyze_join(current, Seen::nothing(), next, shared.pos(), offset, eps);
     print(b"join");
-    print_cause(joins::classify_join(current, next, offset, eps));
-    print_boundary(joins::analyze_join(current, next, shared.pos(), offset, eps));
+    print_cause(cause);
+    let boundary = joined.boundary;
+    print_boundary(boundary);
+}
+
+// The same join, where the current segment's start angle may be known. The next one's is printed.
+fn seen_join(row: &[u8; 192]) {
+    let shared = vertex(row, 4);
+    let offset = number(row, 9);
+    let current = CarriedSeg::anew(vertex(row, 1), shared, offset);
+    let next = CarriedSeg::anew(shared, end_vertex(row, 7), offset);
+    let seen = Seen {
+        known: holds(row, 11),
+        angle: number(row, 12),
+    };
+    let joined = joins::analyze_join(current, seen, next, shared.pos(), offset, number(row, 10));
+    print(b"seen_join");
+    let boundary = joined.boundary;
+    print_boundary(boundary);
+    let shown = joined.seen;
+    print_seen(shown);
 }
 
 fn segment_row(function: u64, row: &[u8; 192]) {
@@ -327,6 +413,16 @@ fn join_row(function: u64, row: &[u8; 192]) {
     }
 }
 
+fn seen_row(function: u64, row: &[u8; 192]) {
+    match function {
+        13 => seen_arc_param(row),
+        14 => seen_line_arc(row),
+        15 => seen_arc_line(row),
+        16 => seen_arc_arc(row),
+        _ => seen_join(row),
+    }
+}
+
 // Answers one row, or says that there is none.
 fn answer() -> bool {
     let mut row = [0u8; 192];
@@ -336,8 +432,10 @@ fn answer() -> bool {
     let function = word(&row, 0);
     if function < 4 {
         segment_row(function, &row);
-    } else {
+    } else if function < 13 {
         join_row(function, &row);
+    } else {
+        seen_row(function, &row);
     }
     print(b"\n");
     true

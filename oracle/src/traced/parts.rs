@@ -131,8 +131,13 @@ impl Fragment {
 
     /// Both sides, unless one is collapsed.
     pub fn sides(&self) -> Option<[Side; 2]> {
-        let [current, next] = self.segments(&mut Trace::new());
-        Some([Side::of(&current)?, Side::of(&next)?])
+        let [current, next] = self.either_side();
+        Some([current?, next?])
+    }
+
+    /// Each side, unless it is collapsed.
+    pub fn either_side(&self) -> [Option<Side>; 2] {
+        self.segments(&mut Trace::new()).map(|side| Side::of(&side))
     }
 
     pub fn join(&self, trace: &mut Trace) -> Joined {
@@ -203,18 +208,29 @@ pub fn round(end: Vector2, start: Vector2, shared: Vector2, offset: f64) -> f64 
     Trace::new().round(set, end, start, shared).bulge
 }
 
-pub fn meeting(current: &Side, next: &Side, shared: Vector2, eps: f64) -> Met {
+/// What two sides come to, and whether a parameter on an arc was asked for at the last point tried.
+pub fn meeting(current: &Side, next: &Side, shared: Vector2, eps: f64) -> (Met, bool) {
     let mut trace = Trace::new();
     let set = Setting { offset: 1.0, eps };
     let met = trace.meeting(set, &current.segment(), &next.segment(), shared);
-    met.ok_or(if trace.happened(Event::NoMeeting) {
+    let met = met.ok_or(if trace.happened(Event::NoMeeting) {
         "none"
     } else {
         "missed"
-    })
+    });
+    (met, trace.asked_arc())
 }
 
 impl Trace {
+    /// The last point tried was not missed by a line, and so came to be asked for on an arc.
+    pub fn asked_arc(&self) -> bool {
+        let last = self.events.iter().rev().find_map(|(_, event)| match event {
+            Event::ParamTooLow | Event::ParamTooHigh => Some(false),
+            _ => ARC_WAYS.iter().any(|(way, _)| way == event).then_some(true),
+        });
+        last.unwrap_or(false)
+    }
+
     fn happened(&self, event: Event) -> bool {
         self.events.iter().any(|(_, other)| *other == event)
     }

@@ -3,12 +3,13 @@
 use crate::jobs;
 use crate::layers::{SEGMENTS, vertices};
 use crate::rows::{Rows, named, point, words};
-use oracle::core::math::Vector2;
+use oracle::core::math::{Vector2, angle};
 use oracle::polyline::PlineVertex;
 use oracle::stage::Job;
 use oracle::text::bits;
 use oracle::traced::parts::{
-    Fragment, Side, arc_param, equally_near, line_param, meeting, round, span, tangents,
+    Fragment, Joined, Met, Side, arc_param, equally_near, line_param, meeting, round, span,
+    tangents,
 };
 use oracle::traced::{Table, Trace};
 use std::f64::consts::{FRAC_1_SQRT_2, FRAC_PI_2, PI};
@@ -87,6 +88,9 @@ pub fn rows() -> Rows {
     meetings(&mut rows);
     rounds(&mut rows);
     joins(&mut rows);
+    seen_arc_params(&mut rows);
+    seen_meetings(&mut rows);
+    seen_joins(&mut rows);
     rows
 }
 
@@ -148,14 +152,15 @@ fn line_params(rows: &mut Rows) {
     }
 }
 
-fn arc_params(rows: &mut Rows) {
+/// An arc, a point and ε.
+fn points_of_arcs() -> [([f64; 9], [f64; 2], f64); 28] {
     let half = FRAC_1_SQRT_2;
     // Not on its own circle: a point past the end is then within ε along the arc alone.
     let mut small = LEFT;
     small[6] = 0.5;
     let mut straight = LEFT;
     straight[8] = 0.0;
-    for (arc, at, eps) in [
+    [
         (LEFT, [1.0, 0.0], 1e-5),
         (LEFT, [1.000001, -0.000001], 1e-5),
         (LEFT, [1.0 + E, 0.0], E),
@@ -184,12 +189,19 @@ fn arc_params(rows: &mut Rows) {
         (small, [-3.0 * E, 1.0], E),
         (straight, [2.0, 0.0], 1e-5),
         (straight, [2.0, 1.0], 1e-5),
-    ] {
-        let (way, param) = arc_param(&arc, point(&at), eps);
-        let output = format!("{way} {}", param.map_or("missed".to_string(), bits));
+    ]
+}
+
+fn arc_params(rows: &mut Rows) {
+    for (arc, at, eps) in points_of_arcs() {
         let inputs = [arc.as_slice(), &at, &[eps]].concat();
-        rows.add("usable_arc_param", &inputs, &output);
+        rows.add("usable_arc_param", &inputs, &arc_way(&arc, at, eps));
     }
+}
+
+fn arc_way(arc: &[f64; 9], at: [f64; 2], eps: f64) -> String {
+    let (way, param) = arc_param(arc, point(&at), eps);
+    format!("{way} {}", param.map_or("missed".to_string(), bits))
 }
 
 fn distances(rows: &mut Rows) {
@@ -216,36 +228,118 @@ fn distances(rows: &mut Rows) {
     }
 }
 
+/// Two sides, the source vertex that they share, and ε.
+fn neighbours() -> impl Iterator<Item = ([Side; 2], Vector2, f64)> {
+    let of_jobs = fragments().filter_map(|fragment| {
+        let shared = fragment.vertices[1].pos();
+        Some((fragment.sides()?, shared, fragment.eps))
+    });
+    of_jobs.chain(BESIDE.map(|sides| (sides, Vector2::new(1.0, 0.0), 1e-5)))
+}
+
 fn meetings(rows: &mut Rows) {
-    for fragment in fragments() {
-        if let Some([current, next]) = fragment.sides() {
-            let shared = fragment.vertices[1].pos();
-            meet(rows, current, next, shared, fragment.eps);
-        }
-    }
-    let shared = Vector2::new(1.0, 0.0);
-    for [current, next] in BESIDE {
-        meet(rows, current, next, shared, 1e-5);
+    for ([current, next], shared, eps) in neighbours() {
+        let function = match (current, next) {
+            (Side::Line(_), Side::Line(_)) => "line_line_meeting",
+            (Side::Line(_), Side::Arc(_)) => "line_arc_meeting",
+            (Side::Arc(_), Side::Line(_)) => "arc_line_meeting",
+            (Side::Arc(_), Side::Arc(_)) => "arc_arc_meeting",
+        };
+        let (met, _) = meeting(&current, &next, shared, eps);
+        let numbers = [
+            current.numbers(),
+            next.numbers(),
+            &[shared.x, shared.y, eps],
+        ];
+        rows.add(function, &numbers.concat(), &met_text(met));
     }
 }
 
-fn meet(rows: &mut Rows, current: Side, next: Side, shared: Vector2, eps: f64) {
-    let function = match (current, next) {
-        (Side::Line(_), Side::Line(_)) => "line_line_meeting",
-        (Side::Line(_), Side::Arc(_)) => "line_arc_meeting",
-        (Side::Arc(_), Side::Line(_)) => "arc_line_meeting",
-        (Side::Arc(_), Side::Arc(_)) => "arc_arc_meeting",
-    };
-    let output = match meeting(&current, &next, shared, eps) {
+fn met_text(met: Met) -> String {
+    match met {
         Ok((at, on_current, on_next)) => named("at", &[at.x, at.y, on_current, on_next]),
         Err(way) => way.to_string(),
+    }
+}
+
+/// Stands where a start angle is not known, and must not count.
+const UNKNOWN: f64 = 2.5;
+
+/// A side as a row has it and as 000 has it, and, of an arc, whether its start angle is known.
+struct View {
+    given: Side,
+    meant: Side,
+    known: Option<bool>,
+}
+
+/// An arc once with its start angle not known, and once as it is; a line as it is.
+fn views(side: Side) -> Vec<View> {
+    let as_given = |known| View {
+        given: side,
+        meant: side,
+        known,
     };
-    let numbers = [
-        current.numbers(),
-        next.numbers(),
-        &[shared.x, shared.y, eps],
-    ];
-    rows.add(function, &numbers.concat(), &output);
+    let Side::Arc(numbers) = side else {
+        return vec![as_given(None)];
+    };
+    let unknown = View {
+        given: Side::Arc(with_start_angle(numbers, UNKNOWN)),
+        meant: Side::Arc(worked_out(numbers)),
+        known: Some(false),
+    };
+    vec![unknown, as_given(Some(true))]
+}
+
+fn with_start_angle(mut arc: [f64; 9], angle: f64) -> [f64; 9] {
+    arc[7] = angle;
+    arc
+}
+
+fn worked_out(arc: [f64; 9]) -> [f64; 9] {
+    with_start_angle(arc, angle(point(&arc[4..]), point(&arc)))
+}
+
+fn seen_arc_params(rows: &mut Rows) {
+    for (arc, at, eps) in points_of_arcs() {
+        let output = arc_way(&worked_out(arc), at, eps);
+        let arc = with_start_angle(arc, UNKNOWN);
+        let inputs = [arc.as_slice(), &at, &[eps, 0.0]].concat();
+        rows.add("seen_arc_param", &inputs, &output);
+    }
+}
+
+/// The meetings with an arc once more, each start angle known or not, with the start angle that is
+/// handed back: of the arc that the walk goes on with, where it was known or asked for.
+fn seen_meetings(rows: &mut Rows) {
+    for (sides, shared, eps) in neighbours() {
+        let function = match sides {
+            [Side::Line(_), Side::Line(_)] => continue,
+            [Side::Line(_), Side::Arc(_)] => "seen_line_arc",
+            [Side::Arc(_), Side::Line(_)] => "seen_arc_line",
+            [Side::Arc(_), Side::Arc(_)] => "seen_arc_arc",
+        };
+        let [current, next] = sides.map(views);
+        for current in &current {
+            for next in &next {
+                let (met, asked) = meeting(&current.meant, &next.meant, shared, eps);
+                let seen = match next.meant {
+                    Side::Line(_) => String::new(),
+                    Side::Arc(arc) => {
+                        seen_text((asked || next.known == Some(true)).then_some(arc[7]))
+                    }
+                };
+                let known = [current.known, next.known].into_iter().flatten();
+                let known: Vec<f64> = known.map(|known| f64::from(u8::from(known))).collect();
+                let numbers = [
+                    current.given.numbers(),
+                    next.given.numbers(),
+                    &[shared.x, shared.y, eps],
+                    &known,
+                ];
+                rows.add(function, &numbers.concat(), &(met_text(met) + &seen));
+            }
+        }
+    }
 }
 
 fn rounds(rows: &mut Rows) {
@@ -275,34 +369,53 @@ fn rounds(rows: &mut Rows) {
 
 fn joins(rows: &mut Rows) {
     for fragment in fragments() {
-        let [a, b, c] = fragment.vertices;
         let join = fragment.join(&mut Trace::new());
-        let (end, start) = (join.end, join.start);
-        let numbers = [
-            end.x,
-            end.y,
-            join.end_param,
-            start.x,
-            start.y,
-            join.start_param,
-            join.bulge,
-        ];
-        let (cause, boundary) = (join.cause, named(join.class, &numbers));
-        let output = format!("{cause} {boundary} {}", truth(join.invalid));
-        let inputs = [
-            a.x,
-            a.y,
-            a.bulge,
-            b.x,
-            b.y,
-            b.bulge,
-            c.x,
-            c.y,
-            fragment.offset,
-            fragment.eps,
-        ];
-        rows.add("join", &inputs, &output);
+        let output = format!("{} {}", join.cause, boundary_text(&join));
+        rows.add("join", &joined_numbers(&fragment), &output);
     }
+}
+
+fn joined_numbers(fragment: &Fragment) -> [f64; 10] {
+    let [a, b, c] = fragment.vertices;
+    let (offset, eps) = (fragment.offset, fragment.eps);
+    [a.x, a.y, a.bulge, b.x, b.y, b.bulge, c.x, c.y, offset, eps]
+}
+
+fn boundary_text(join: &Joined) -> String {
+    let (end, start) = (join.end, join.start);
+    let numbers = [
+        end.x,
+        end.y,
+        join.end_param,
+        start.x,
+        start.y,
+        join.start_param,
+        join.bulge,
+    ];
+    format!("{} {}", named(join.class, &numbers), truth(join.invalid))
+}
+
+/// The joins once more, with the start angle known where the current side is an arc, and with the
+/// next one's that is handed back.
+fn seen_joins(rows: &mut Rows) {
+    for fragment in fragments() {
+        let mut trace = Trace::new();
+        let boundary = boundary_text(&fragment.join(&mut trace));
+        let [known, next] = fragment.either_side().map(|side| match side {
+            Some(Side::Arc(arc)) => Some(arc[7]),
+            _ => None,
+        });
+        let given = known.map_or([0.0, UNKNOWN], |angle| [1.0, angle]);
+        let inputs = [joined_numbers(&fragment).as_slice(), &given].concat();
+        let seen = next.filter(|_| trace.asked_arc());
+        rows.add("seen_join", &inputs, &(boundary + &seen_text(seen)));
+    }
+}
+
+fn seen_text(seen: Option<f64>) -> String {
+    seen.map_or(" unseen".to_string(), |angle| {
+        format!(" seen {}", bits(angle))
+    })
 }
 
 /// A right angle whose two forms of the connector's bulge differ.

@@ -55,6 +55,11 @@ const JOINS: Program = Program {
         "arc_arc_meeting",
         "round",
         "join",
+        "seen_arc_param",
+        "seen_line_arc",
+        "seen_arc_line",
+        "seen_arc_arc",
+        "seen_join",
     ],
     rows: || {
         Rows(
