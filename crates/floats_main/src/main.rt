@@ -28,6 +28,52 @@ const EDGES: [u64; 20] = [
     0xfff0_0000_0000_0001,
 ];
 
+// Numbers that roots are looked for near: offsets as shops use them, whole numbers, one whose square
+// has all its digits, and a huge and a tiny one.
+const GUESSES: [u64; 16] = [
+    0x3fa9_9999_9999_999a,
+    0x3fb9_9999_9999_999a,
+    0x3fc9_9999_9999_999a,
+    0x3fd0_0000_0000_0000,
+    0x3fe0_0000_0000_0000,
+    0x3ff0_0000_0000_0000,
+    0x3ff8_0000_0000_0000,
+    0x4000_0000_0000_0000,
+    0x4014_0000_0000_0000,
+    0x4008_cccc_cccc_cccd,
+    0x3ff0_0000_0000_0001,
+    0x3fff_ffff_ffff_ffff,
+    0x3ff0_0000_0400_0000,
+    0x3eb0_c6f7_a0b5_ed8d,
+    0x5fe2_3456_789a_bcde,
+    0x1ff2_3456_789a_bcde,
+];
+
+// From 1 to 2, with the ends, the squares of 9/8, 5/4, 11/8 and 1 + 2^-26, and the numbers next to
+// these; and two numbers past each end.
+const WITHIN: [u64; 20] = [
+    0x3fef_ffff_ffff_fffe,
+    0x3fef_ffff_ffff_ffff,
+    0x3ff0_0000_0000_0000,
+    0x3ff0_0000_0000_0001,
+    0x3ff0_0000_0000_0002,
+    0x3ff0_0000_0800_0000,
+    0x3ff0_0000_0800_0001,
+    0x3ff0_0000_0800_0002,
+    0x3ff4_4000_0000_0000,
+    0x3ff4_4000_0000_0001,
+    0x3ff8_0000_0000_0000,
+    0x3ff8_ffff_ffff_ffff,
+    0x3ff9_0000_0000_0000,
+    0x3ffe_3fff_ffff_ffff,
+    0x3ffe_4000_0000_0000,
+    0x3fff_ffff_ffff_fffe,
+    0x3fff_ffff_ffff_ffff,
+    0x4000_0000_0000_0000,
+    0x4000_0000_0000_0001,
+    0x4000_0000_0000_0002,
+];
+
 fn print(word: &[u8]) {
     let _written = io::write_all(1, word);
 }
@@ -118,6 +164,105 @@ fn rows() {
     }
 }
 
+// The roots of two numbers, looked for near a third.
+fn near(x: f64, y: f64, g: f64) {
+    let roots = floats::roots_near(x, y, g);
+    print(b"near");
+    print_bits(x);
+    print_bits(y);
+    print_bits(g);
+    print_bits(roots.first);
+    print_bits(roots.second);
+    print(b"\n");
+}
+
+// The root of one number by guesses that are good, near and bad.
+fn guessed(a: f64) {
+    let guesses = floats::guess(a);
+    print(b"guessed");
+    print_bits(a);
+    print_bits(floats::sqrt_by(a, guesses.first));
+    print_bits(floats::sqrt_by(a, guesses.second));
+    print_bits(floats::sqrt_by(a, guesses.third));
+    print_bits(floats::sqrt_by(a, std::num::wrapping_add_u64(guesses.first, 1)));
+    print_bits(floats::sqrt_by(a, std::num::wrapping_sub_u64(guesses.first, 1)));
+    print_bits(floats::sqrt_by(
+        a,
+        std::num::wrapping_add_u64(guesses.first, 0x0001_0000_0000),
+    ));
+    print_bits(floats::sqrt_by(a, std::num::wrapping_sub_u64(guesses.first, 0x0004_0000)));
+    print_bits(floats::sqrt_by(a, 0));
+    print_bits(floats::sqrt_by(a, 1));
+    print_bits(floats::sqrt_by(a, 0x5a82_799a));
+    print_bits(floats::sqrt_by(a, 0x8000_0000));
+    print_bits(floats::sqrt_by(a, 0xffff_ffff));
+    print_bits(floats::sqrt_by(a, 0xffff_ffff_ffff_ffff));
+    print(b"\n");
+}
+
+// x some units in the last place further on.
+fn further(x: f64, units: u64) -> f64 {
+    bits::number_of(std::num::wrapping_add_u64(bits::bits_of(x), units))
+}
+
+// About the square of a guess: at it, at each number next to it, and some hundred units and some
+// parts of it away; and one of the two far from it.
+fn near_guess(i: usize)
+    requires { ⌜ i < 16 ⌝ }
+{
+    let g = bits::number_of(GUESSES[i]);
+    let square = g * g;
+    near(square, square, g);
+    near(
+        further(square, 1),
+        further(square, 0xffff_ffff_ffff_ffff),
+        g,
+    );
+    near(
+        further(square, 2),
+        further(square, 0xffff_ffff_ffff_fffe),
+        g,
+    );
+    near(
+        further(square, 0xffff_ffff_ffff_ff38),
+        further(square, 200),
+        g,
+    );
+    near(square * 1.000000001, square * 0.999999999, g);
+    near(square * 1.000001, square * 0.999, g);
+    near(square, 7.0, g);
+    near(0.1, further(square, 3), g);
+    near(square, further(square, 1), -g);
+}
+
+// An edge beside others, near others and near its own root; and by guesses.
+fn near_edge(i: usize)
+    requires { ⌜ i < 20 ⌝ }
+{
+    let a = bits::number_of(EDGES[i]);
+    let b = bits::number_of(EDGES[(i + 1) % 20]);
+    let c = bits::number_of(EDGES[(i + 7) % 20]);
+    near(a, b, c);
+    near(a, 1.0, 1.0);
+    near(1.0, a, 1.0);
+    near(a, a, floats::sqrt(a));
+    near(4.0, 4.0, a);
+    guessed(a);
+    guessed(bits::number_of(WITHIN[i]));
+}
+
+fn near_guesses() {
+    for i in 0..16 {
+        near_guess(i);
+    }
+}
+
+fn near_edges() {
+    for i in 0..20 {
+        near_edge(i);
+    }
+}
+
 fn main() {
     rows();
     // near in x alone, in y alone, in both; the difference equal to the tolerance is not near
@@ -133,4 +278,6 @@ fn main() {
     );
     vectors_of(o, Vector2 { x: 0.01, y: 0.0 });
     vector(Vector2 { x: 3.0, y: 4.0 });
+    near_guesses();
+    near_edges();
 }
