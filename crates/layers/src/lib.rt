@@ -1,5 +1,6 @@
 // Inner functions under C names, for timing them and comparing them layer by layer. Not for callers.
 ghost use mathlib.Core.Path.{_≡_};
+ghost use mathlib.Core.List.{[], _∷_};
 ghost use Rattle.floats.specs.Root.{sqrtOf};
 ghost use Rattle.vectors.specs.declared.Vector2.{Vector2};
 ghost use Rattle.angles.specs.Angle.{atanOf, tanOf, angleOf};
@@ -18,6 +19,39 @@ pub extern "C" fn layers_sqrt(x: f64) -> f64
     ensures { λ r. ⌜ r ≡ sqrtOf x ⌝ }
 {
     floats::sqrt(x)
+}
+
+// floats::roots_near
+#[no_mangle]
+pub extern "C" fn layers_roots_near(x: f64, y: f64, g: f64, out: &mut [f64; 2])
+    ensures { λ r. ⌜ now (out .exit) ≡ sqrtOf x ∷ sqrtOf y ∷ [] ⌝ }
+{
+    let roots = floats::roots_near(x, y, g);
+    *out = [roots.first, roots.second];
+}
+
+// floats::sqrt_by
+#[no_mangle]
+pub extern "C" fn layers_sqrt_by(a: f64, y: u64) -> f64
+    ensures { λ r. ⌜ r ≡ sqrtOf a ⌝ }
+{
+    floats::sqrt_by(a, y)
+}
+
+// floats::sqrt_by, by the first guess for a
+#[no_mangle]
+pub extern "C" fn layers_sqrt_guessed(a: f64) -> f64
+    ensures { λ r. ⌜ r ≡ sqrtOf a ⌝ }
+{
+    let guesses = floats::guess(a);
+    floats::sqrt_by(a, guesses.first)
+}
+
+// floats::guess: three guesses, of which nothing is promised
+#[no_mangle]
+pub extern "C" fn layers_guess(a: f64, out: &mut [u64; 3]) {
+    let guesses = floats::guess(a);
+    *out = [guesses.first, guesses.second, guesses.third];
 }
 
 // angles::atan
