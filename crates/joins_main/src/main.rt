@@ -8,7 +8,6 @@ use joins::JoinClass;
 use meetings::ArcParam;
 use meetings::Met;
 use meetings::Param;
-use meetings::Seen;
 use meetings::SeenArc;
 use meetings::SeenMet;
 use segments::CarriedSeg;
@@ -82,11 +81,15 @@ fn seen_arc(row: &[u8; 192], k: usize, known: bool) -> SeenArc
         center: vector(row, k + 4),
         radius: number(row, k + 6),
         sweep: number(row, k + 8),
-        seen: Seen {
-            known,
-            angle: number(row, k + 7),
-        },
+        seen: seen_angle(known, number(row, k + 7)),
     }
+}
+
+fn seen_angle(known: bool, angle: f64) -> f64 {
+    if known {
+        return angle;
+    }
+    meetings::not_seen()
 }
 
 fn arc(row: &[u8; 192], k: usize) -> SeenArc
@@ -301,14 +304,13 @@ fn seen_arc_arc(row: &[u8; 192]) {
 fn print_shown(shown: SeenMet) {
     let met = shown.met;
     print_met(met);
-    let seen = shown.seen;
-    print_seen(seen);
+    print_seen(shown.seen);
 }
 
-fn print_seen(seen: Seen) {
-    if seen.known {
+fn print_seen(seen: f64) {
+    if seen == seen {
         print(b" seen");
-        print_number(seen.angle);
+        print_number(seen);
     } else {
         print(b" unseen");
     }
@@ -365,7 +367,8 @@ fn join(row: &[u8; 192]) {
     let current = CarriedSeg::anew(vertex(row, 1), shared, offset);
     let next = CarriedSeg::anew(shared, end_vertex(row, 7), offset);
     let cause = joins::classify_join(current, next, offset, eps);
-    let joined = joins::analyze_join(current, Seen::nothing(), next, shared.pos(), offset, eps);
+    let unseen = meetings::not_seen();
+    let joined = joins::analyze_join(current, unseen, next, shared.pos(), offset, eps);
     print(b"join");
     print_cause(cause);
     let boundary = joined.boundary;
@@ -378,16 +381,12 @@ fn seen_join(row: &[u8; 192]) {
     let offset = number(row, 9);
     let current = CarriedSeg::anew(vertex(row, 1), shared, offset);
     let next = CarriedSeg::anew(shared, end_vertex(row, 7), offset);
-    let seen = Seen {
-        known: holds(row, 11),
-        angle: number(row, 12),
-    };
+    let seen = seen_angle(holds(row, 11), number(row, 12));
     let joined = joins::analyze_join(current, seen, next, shared.pos(), offset, number(row, 10));
     print(b"seen_join");
     let boundary = joined.boundary;
     print_boundary(boundary);
-    let shown = joined.seen;
-    print_seen(shown);
+    print_seen(joined.seen);
 }
 
 fn segment_row(function: u64, row: &[u8; 192]) {
