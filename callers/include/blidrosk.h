@@ -3,7 +3,7 @@
  *
  * One function, which keeps nothing between calls, allocates nothing, and ends at any numbers, NaN
  * and infinities included. Link libblidrosk.a, which tools/archive makes. Of the C library it takes
- * memset, and on x86-64 memcpy too, and nothing else.
+ * memset, and nothing else.
  */
 #ifndef BLIDROSK_H
 #define BLIDROSK_H
