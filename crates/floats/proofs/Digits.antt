@@ -1,30 +1,31 @@
--- The arithmetic of `slow_root`: the square root of w * 2 ^ 52, two binary digits a turn. Assumes nothing.
-use mathlib.Core.Path.{_≡_, refl, sym, ap, _∙_}
+-- The arithmetic of `slow_root`: the square root of w * 2 ^ 54, two binary digits a turn, and that of w * 2 ^ 52 by its last digit. Assumes nothing.
+use mathlib.Core.Path.{_≡_, refl, sym, ap, subst, _∙_}
+use mathlib.Core.Logic.{⊎-elim}
 use Prim.Native.Nat.{ℕ, zero, suc, _+_, _-_, _*_, _/_, _%_, _^_, _≤_, _<_}
-use native.Mathlib.Nat.{le-trans, le-of-eq, zero-add, mul-one, mul-comm, mul-assoc, mul-le-mul-left, mul-le-mul-right, mul-div-cancel, pow-succ'}
+use native.Mathlib.Nat.{le-trans, le-of-eq, zero-add, mul-one, mul-comm, mul-assoc, mul-le-mul-left, mul-le-mul-right, mul-div-cancel, pow-succ', eq-zero-or-pos}
 use native.Mathlib.Omega.{arith}
 use lib.Arith.{digits-div}
 use lib.Pow.{pow-pos}
 use Rattle.floats.specs.Steps.{NearRoot}
 
--- r * r + d are the digits taken, s those to come, of which there are 2 * k: together, the 106 digits of w * 2 ^ 52 and 54 zeros
+-- r * r + d are the digits taken, s those to come, of which there are 2 * k: together, the 108 digits of w * 2 ^ 54 and 54 zeros
 unfoldable pub Taken : (w r d s k : ℕ) → Type 0
-Taken w r d s k = ((r * r + d) * 2 ^ 54 + s) * 4 ^ k ≡ w * 2 ^ 106
+Taken w r d s k = ((r * r + d) * 2 ^ 54 + s) * 4 ^ k ≡ w * 2 ^ 108
 
 unfoldable pub Short : (r k : ℕ) → Type 0
-Short r k = (r + 1) * 2 ^ k ≤ 2 ^ 53
+Short r k = (r + 1) * 2 ^ k ≤ 2 ^ 54
 
 pub record Inv (w r d s k : ℕ) : Type 0 where
-  pub turns : k ≤ 53
+  pub turns : k ≤ 54
   pub coming : s < 2 ^ 54
   pub rest : d ≤ 2 * r
-  pub root : r + 1 ≤ 2 ^ 53
+  pub root : r + 1 ≤ 2 ^ 54
   pub short : Short r k
   pub taken : Taken w r d s k
 
-pub start : (w : ℕ) → w < 2 ^ 54 → Inv w 0 0 w 53
+pub start : (w : ℕ) → w < 2 ^ 54 → Inv w 0 0 w 54
 unfolding Taken Short
-start w h = record { turns = omega arith; coming = h; rest = omega arith; root = omega arith; short = le-of-eq refl; taken = ap (λ (x : ℕ). x * 4 ^ 53) (zero-add w) }
+start w h = record { turns = omega arith; coming = h; rest = omega arith; root = omega arith; short = le-of-eq refl; taken = ap (λ (x : ℕ). x * 4 ^ 54) (zero-add w) }
 
 -- ---- a turn
 pred-pow : (b k : ℕ) → 0 < k → b ^ k ≡ b * b ^ (k - 1)
@@ -44,7 +45,7 @@ unfolding Short
 next-short r k r' h l t =
     le-trans (mul-le-mul-right (2 ^ (k - 1)) l) (le-trans (le-of-eq (mul-assoc (r + 1) 2 (2 ^ (k - 1)) ∙ ap (λ (x : ℕ). (r + 1) * x) (sym (pred-pow 2 k h)))) t)
 
-short-root : (r k : ℕ) → Short r k → r + 1 ≤ 2 ^ 53
+short-root : (r k : ℕ) → Short r k → r + 1 ≤ 2 ^ 54
 unfolding Short
 short-root r k t = le-trans (le-of-eq (sym (mul-one (r + 1)))) (le-trans (mul-le-mul-left (r + 1) (pow-pos k)) t)
 
@@ -78,26 +79,37 @@ turn-even w r d s k h i l =
     }
 
 -- ---- the end
-all-taken : (w r d s k : ℕ) → k ≤ 0 → s < 2 ^ 54 → Taken w r d s k → r * r + d ≡ w * 2 ^ 52
+all-taken : (w r d s k : ℕ) → k ≤ 0 → s < 2 ^ 54 → Taken w r d s k → r * r + d ≡ w * 2 ^ 54
 unfolding Taken
 all-taken w r d s k z l t =
     sym (digits-div (r * r + d) l)
-    ∙ ap (λ (x : ℕ). x / 2 ^ 54) (sym (mul-one ((r * r + d) * 2 ^ 54 + s)) ∙ ap (λ (x : ℕ). ((r * r + d) * 2 ^ 54 + s) * 4 ^ x) (none k z) ∙ t ∙ sym (mul-assoc w (2 ^ 52) (2 ^ 54)))
-    ∙ mul-div-cancel (w * 2 ^ 52) (pow-pos 54)
+    ∙ ap (λ (x : ℕ). x / 2 ^ 54) (sym (mul-one ((r * r + d) * 2 ^ 54 + s)) ∙ ap (λ (x : ℕ). ((r * r + d) * 2 ^ 54 + s) * 4 ^ x) (none k z) ∙ t ∙ sym (mul-assoc w (2 ^ 54) (2 ^ 54)))
+    ∙ mul-div-cancel (w * 2 ^ 54) (pow-pos 54)
   where
     none : (k : ℕ) → k ≤ 0 → 0 ≡ k
     none k h = omega arith
 
-pub end-up : (w r d s k : ℕ) → k ≤ 0 → Inv w r d s k → r < d → NearRoot (w * 2 ^ 52) (r + 1)
-end-up w r d s k z i l =
-    let e : r * r + d ≡ w * 2 ^ 52 = all-taken w r d s k z (i .coming) (i .taken) in
-    record { low = omega arith; high = omega arith }
+-- an even r is twice the root, and an odd one lies past a middle
+even-near : (n m d : ℕ) → 0 < n → m * 2 * (m * 2) + d ≡ 4 * n → d ≤ 2 * (m * 2) → NearRoot n m
+even-near n zero d p e l = record { low = omega arith; high = omega arith }
+even-near n (suc m) d p e l = record { low = omega arith; high = omega arith }
 
-pub end-down : (w r d s k : ℕ) → 0 < w → k ≤ 0 → Inv w r d s k → d ≤ r → NearRoot (w * 2 ^ 52) r
-end-down w r d s k p z i l =
-    let e : r * r + d ≡ w * 2 ^ 52 = all-taken w r d s k z (i .coming) (i .taken) in
-    record { low = positive r d w p e; high = omega arith }
+odd-near : (n m d : ℕ) → (m * 2 + 1) * (m * 2 + 1) + d ≡ 4 * n → d ≤ 2 * (m * 2 + 1) → NearRoot n (m + 1)
+odd-near n m d e l = record { low = omega arith; high = omega arith }
+
+half-near : (n r d : ℕ) → 0 < n → r * r + d ≡ 4 * n → d ≤ 2 * r → NearRoot n ((r + 1) / 2)
+half-near n r d p e l = ⊎-elim even odd (eq-zero-or-pos (r % 2))
   where
-    positive : (r d w : ℕ) → 0 < w → r * r + d ≡ w * 2 ^ 52 → r * r < w * 2 ^ 52 + r
-    positive zero d w p e = omega arith
-    positive (suc r) d w p e = omega arith
+    moved : {q m : ℕ} → q ≡ r → m ≡ (r + 1) / 2 → (q * q + d ≡ 4 * n → d ≤ 2 * q → NearRoot n m) → NearRoot n ((r + 1) / 2)
+    moved h k f = subst (NearRoot n) k (f (ap (λ (x : ℕ). x * x + d) h ∙ e) (omega (arith, h, l)))
+
+    even : r % 2 ≡ 0 → NearRoot n ((r + 1) / 2)
+    even h = moved (omega (arith, h)) (omega (arith, h)) (even-near n (r / 2) d p)
+
+    odd : 0 < r % 2 → NearRoot n ((r + 1) / 2)
+    odd h = moved (omega (arith, h)) (omega (arith, h)) (odd-near n (r / 2) d)
+
+pub end : (w r d s k : ℕ) → 0 < w → k ≤ 0 → Inv w r d s k → NearRoot (w * 2 ^ 52) ((r + 1) / 2)
+end w r d s k p z i =
+    let e : r * r + d ≡ w * 2 ^ 54 = all-taken w r d s k z (i .coming) (i .taken) in
+    half-near (w * 2 ^ 52) r d (omega arith) (omega arith) (i .rest)

@@ -43,8 +43,9 @@ const P28: u64 = 0x1000_0000;
 
 const P32: u64 = 0x0001_0000_0000;
 
-// The whole number nearest to √(w * 2^52), two binary digits of w * 2^52 at a time: r is the root
-// of the digits taken so far, d what they exceed its square by, and s the digits to come.
+// The whole number nearest to √(w * 2^52), two binary digits of w * 2^54 at a time: r is the root
+// of the digits taken so far, d what they exceed its square by, and s the digits to come. So the root
+// comes with one digit more, which rounds it.
 fn slow_root(w: u64) -> u64
     requires { ⌜ (0 < w) × (w < 2 ^ 54) ⌝ }
     ensures { λ r. ⌜ NearRoot (w * 2 ^ 52) r ⌝ }
@@ -52,7 +53,7 @@ fn slow_root(w: u64) -> u64
     let mut r: u64 = 0;
     let mut d: u64 = 0;
     let mut s: u64 = w;
-    let mut k: u64 = 53;
+    let mut k: u64 = 54;
     while 0 < k {
         let e = d * 4 + s / HID;
         let t = r * 4 + 1;
@@ -66,7 +67,7 @@ fn slow_root(w: u64) -> u64
         }
         k -= 1;
     }
-    if r < d { r + 1 } else { r }
+    (r + 1) / 2
 }
 
 // The whole number nearest to √(q * q + rest), which is q or q + 1.

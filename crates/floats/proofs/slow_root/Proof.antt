@@ -3,7 +3,7 @@ use mathlib.Core.Path.{_≡_, subst}
 use Prim.Native.Nat.{ℕ, _+_, _-_, _*_, _/_, _%_, _^_}
 use native.Mathlib.Omega.{arith}
 use mathlib.Core.Logic.{⊎-elim}
-use Rattle.floats.proofs.Digits.{Inv, start, turn-odd, turn-even, end-up, end-down}
+use Rattle.floats.proofs.Digits.{Inv, start, turn-odd, turn-even, end}
 use Rattle.floats.proofs.slow_root.Statement.{statement}
 use Rattle.floats.proofs.slow_root.Tie as tie
 
@@ -65,13 +65,8 @@ add-result c = omega arith
 
 returns : tie.Need-returns Inv-loop μ-loop
 returns c =
-    let i = c .before .before .loop in
-    end-up (c .before .before .before .args .w) (i .r) (i .d) (i .s) (i .k) (c .before .loop-test .left) (i .inv) (c .if2 .taken)
-
-returns-2 : tie.Need-returns-2 Inv-loop μ-loop
-returns-2 c =
-    let i = c .before .before .loop in
-    end-down (c .before .before .before .args .w) (i .r) (i .d) (i .s) (i .k) (c .before .before .before .pre .0) (c .before .loop-test .left) (i .inv) (c .if2 .left)
+    let i = c .before .loop in
+    end (c .before .before .args .w) (i .r) (i .d) (i .s) (i .k) (c .before .before .pre .0) (c .loop-test .left) (i .inv)
 
 pub slow-root-spec : {M : Type 1} → statement M
 slow-root-spec =
@@ -92,5 +87,4 @@ slow-root-spec =
     loop-less
     loop-again
     add-result
-    returns
-    returns-2)
+    returns)
