@@ -11,11 +11,9 @@ ghost use Rattle.floats.specs.Steps.{NearRoot, Tells, roots};
 pub fn abs(x: f64) -> f64
     ensures { λ r. ⌜ r ≡ absOf x ⌝ }
 {
-    if x < 0.0 {
-        return -x;
-    }
-    if x == 0.0 {
-        return 0.0;
+    // not -x, so that either zero gives +0; and one test, since a processor guesses signs badly
+    if x <= 0.0 {
+        return 0.0 - x;
     }
     x
 }
