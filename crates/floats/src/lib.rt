@@ -5,7 +5,7 @@ ghost use Prim.Native.Nat.{_+_, _*_, _/_, _%_, _^_, _≤_, _<_};
 ghost use lib.Ieee.{binary64, ofBits};
 ghost use Rattle.floats.specs.Size.{absOf, within, finite};
 ghost use Rattle.floats.specs.Root.{sqrtOf, rootOf};
-ghost use Rattle.floats.specs.Steps.{NearRoot, Tells, roots};
+ghost use Rattle.floats.specs.Steps.{NearRoot, Tells, Raised, roots};
 
 // x with its sign cleared: −0 gives +0.
 pub fn abs(x: f64) -> f64
@@ -149,7 +149,21 @@ fn finish(u: u64) -> f64
     f64::from_bits((e / 2 - 1) * HID + r)
 }
 
-// √x to the nearest f64: x itself for a zero and for +∞, and a NaN for a NaN and below zero.
+// b with its exponent raised by 1023, so that a subnormal number's bits can have the same form.
+fn raised(b: u64) -> u64
+    requires { ⌜ (0 < b) × (b < 0x7ff0_0000_0000_0000) ⌝ }
+    ensures { λ r. ⌜ Raised b r ⌝ }
+{
+    if b >= HID {
+        return b + 1023 * HID;
+    }
+    let z = u64::leading_zeros(b) as u64 - 11;
+    (1023 - z) * HID + (b << z)
+}
+
+// √x to the nearest f64: x itself for a zero and for +∞, and a NaN for a NaN and below zero. `finish` is
+// called from one place, so all of this is compiled to one function that others call, and no half of it
+// into each of them.
 pub fn sqrt(x: f64) -> f64
     ensures { λ r. ⌜ r ≡ sqrtOf x ⌝ }
 {
@@ -158,12 +172,7 @@ pub fn sqrt(x: f64) -> f64
         if b >= 0x7ff0_0000_0000_0000 {
             return x;
         }
-        // its exponent raised by 1023, so that a subnormal x can have the same form
-        if b >= HID {
-            return finish(b + 1023 * HID);
-        }
-        let z = u64::leading_zeros(b) as u64 - 11;
-        return finish((1023 - z) * HID + (b << z));
+        return finish(raised(b));
     }
     if x == 0.0 { x } else { 0.0 / 0.0 }
 }
