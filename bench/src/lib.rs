@@ -6,12 +6,12 @@ pub mod drawings;
 unsafe extern "C" {
     safe fn layers_sqrt(x: f64) -> f64;
     safe fn layers_roots_near(x: f64, y: f64, g: f64, out: &mut [f64; 2]);
-    safe fn layers_sqrt_by(a: f64, y: u64) -> f64;
+    safe fn layers_sqrt_by(a: f64, g: f64) -> f64;
     safe fn layers_sqrt_guessed(a: f64) -> f64;
-    safe fn layers_guess(a: f64, out: &mut [u64; 3]);
+    safe fn layers_guess(a: f64, out: &mut [f64; 3]);
 }
 
-/// What stands where roots are handed back, before a call. It is no root.
+/// What stands where roots or guesses are handed back, before a call. It is neither.
 const BEFORE: f64 = -7.25;
 
 /// The proved square root, `floats::sqrt`. The archive is not inlined, so this is a call.
@@ -26,8 +26,8 @@ pub fn roots_near(x: f64, y: f64, g: f64) -> [f64; 2] {
     roots
 }
 
-/// The proved root of a by a guess, `floats::sqrt_by`, which is good if it is about 2^31 / √a.
-pub fn root_by(a: f64, guess: u64) -> f64 {
+/// The proved root of a by a guess, `floats::sqrt_by`, which is good if it is about √a.
+pub fn root_by(a: f64, guess: f64) -> f64 {
     layers_sqrt_by(a, guess)
 }
 
@@ -36,9 +36,10 @@ pub fn root_guessed(a: f64) -> f64 {
     layers_sqrt_guessed(a)
 }
 
-/// The guesses for a = 1 + x * x, and for what x is halved to once and twice: `floats::guess`.
-pub fn guesses(a: f64) -> [u64; 3] {
-    let mut guesses = [0; 3];
+/// The guesses at the root of a = 1 + x * x, and at those for what x is halved to once and twice:
+/// `floats::guess`.
+pub fn guesses(a: f64) -> [f64; 3] {
+    let mut guesses = [BEFORE; 3];
     layers_guess(a, &mut guesses);
     guesses
 }

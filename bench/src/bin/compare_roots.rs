@@ -25,7 +25,7 @@ impl Held {
 
     /// Holds a proved root of x to Rust's. `by` is the number that it was looked for near, or the
     /// guess.
-    fn hold(&mut self, x: f64, proved: f64, by: u64) {
+    fn hold(&mut self, x: f64, proved: f64, by: f64) {
         self.roots += 1;
         let plain = plain_root(x);
         if same(proved, plain) {
@@ -34,9 +34,10 @@ impl Held {
         self.differing += 1;
         if self.differing <= SHOWN {
             println!(
-                "{}: the root of {:016x} by {by:016x} is {:016x}, and Rust's {:016x}",
+                "{}: the root of {:016x} by {:016x} is {:016x}, and Rust's {:016x}",
                 self.kind,
                 x.to_bits(),
+                by.to_bits(),
                 proved.to_bits(),
                 plain.to_bits()
             );
@@ -44,16 +45,16 @@ impl Held {
     }
 
     fn hold_root(&mut self, x: f64) {
-        self.hold(x, proved_root(x), 0);
+        self.hold(x, proved_root(x), 0.0);
     }
 
     fn hold_near(&mut self, x: f64, y: f64, g: f64) {
         let [first, second] = roots_near(x, y, g);
-        self.hold(x, first, g.to_bits());
-        self.hold(y, second, g.to_bits());
+        self.hold(x, first, g);
+        self.hold(y, second, g);
     }
 
-    fn hold_by(&mut self, a: f64, guess: u64) {
+    fn hold_by(&mut self, a: f64, guess: f64) {
         self.hold(a, root_by(a, guess), guess);
     }
 }
@@ -139,7 +140,7 @@ const KINDS: [(&str, Draw); 22] = [
             1 => about_border(random),
             _ => within(random),
         };
-        held.hold(a, root_guessed(a), 0);
+        held.hold(a, root_guessed(a), 0.0);
     }),
     ("by a guess: near a square", |random, held| {
         let a = near_square_within(random);
@@ -150,20 +151,16 @@ const KINDS: [(&str, Draw); 22] = [
         held.hold_by(a, guesses(a)[0]);
     }),
     ("by a guess that is off", |random, held| {
-        let a = within(random);
-        let off = random.bits() >> (33 + random.below(31));
+        let a = hard_or_not(random);
+        // up to 2^40 units, every count of digits alike
+        let off = 1 + (random.bits() >> (24 + random.below(40))) as i64;
         let [guess, ..] = guesses(a);
-        held.hold_by(a, guess.wrapping_add(off));
-        held.hold_by(a, guess.wrapping_sub(off));
+        held.hold_by(a, next(guess, off));
+        held.hold_by(a, next(guess, -off));
     }),
     ("by any guess", |random, held| {
-        let a = match random.below(3) {
-            0 => within(random),
-            1 => near_square_within(random),
-            _ => beside_middle_within(random),
-        };
-        let guess = random.bits() >> random.below(64);
-        held.hold_by(a, guess);
+        let a = hard_or_not(random);
+        held.hold_by(a, any_guess(random, a));
     }),
     ("by a guess: past 1 to 2", |random, held| {
         let a = match random.below(3) {
@@ -172,7 +169,7 @@ const KINDS: [(&str, Draw); 22] = [
             _ => next(random.pick(&[1.0, 2.0]), random.below(601) as i64 - 300),
         };
         held.hold_by(a, guesses(a)[0]);
-        held.hold_by(a, random.bits());
+        held.hold_by(a, any_guess(random, a));
     }),
 ];
 
@@ -180,6 +177,29 @@ const KINDS: [(&str, Draw); 22] = [
 const OFFSETS: [f64; 26] = [
     0.05, 0.1, 0.15, 0.2, 0.25, 0.3, 0.4, 0.5, 0.6, 0.75, 0.8, 1.0, 1.2, 1.5, 1.6, 2.0, 2.5, 3.0,
     3.175, 5.0, 6.35, 10.0, 0.001, 0.0625, 0.125, 25.4,
+];
+
+/// The zeros, the least and the largest numbers, those about 1 and 2, −1, the infinities and NaNs.
+const EDGE_GUESSES: [f64; 18] = [
+    0.0,
+    -0.0,
+    5e-324,
+    -5e-324,
+    f64::MIN_POSITIVE.next_down(),
+    f64::MIN_POSITIVE,
+    1.0_f64.next_down(),
+    1.0,
+    1.0_f64.next_up(),
+    -1.0,
+    2.0_f64.next_down(),
+    2.0,
+    2.0_f64.next_up(),
+    f64::MAX,
+    f64::INFINITY,
+    f64::NEG_INFINITY,
+    f64::NAN,
+    // a signalling NaN, of the other sign
+    f64::from_bits(0xfff0_0000_0000_0001),
 ];
 
 fn main() {
@@ -244,9 +264,27 @@ fn within(random: &mut Random) -> f64 {
     random.size(0, 1)
 }
 
-/// About a border of two intervals of the tables, from 1 to 2.
+/// From 1 to 2: any, near a square or beside a middle.
+fn hard_or_not(random: &mut Random) -> f64 {
+    match random.below(3) {
+        0 => within(random),
+        1 => near_square_within(random),
+        _ => beside_middle_within(random),
+    }
+}
+
+/// Any bits, any number about 1 to 2, or the root of a or at most four units from it.
+fn any_guess(random: &mut Random, a: f64) -> f64 {
+    match random.below(3) {
+        0 => f64::from_bits(random.bits()),
+        1 => random.size(-1, 3),
+        _ => next(plain_root(a), random.below(9) as i64 - 4),
+    }
+}
+
+/// About a border of the tables or a number that a cubic of theirs is about, from 1 to 2.
 fn about_border(random: &mut Random) -> f64 {
-    let border = 1.0 + random.below(33) as f64 / 32.0;
+    let border = 1.0 + random.below(65) as f64 / 64.0;
     next(border, random.below(601) as i64 - 300)
 }
 
@@ -385,21 +423,13 @@ fn at_edges() -> [Held; 3] {
             near.hold_near(x, g * g, g);
             near.hold_near(g * g, x, g);
         }
-        let [first, second, third] = guesses(x);
-        for guess in [
-            first,
-            second,
-            third,
-            0,
-            1,
-            1 << 31,
-            (1 << 32) - 1,
-            1 << 32,
-            u64::MAX,
-        ] {
+        for guess in guesses(x).into_iter().chain([plain_root(x), x]) {
             by.hold_by(x, guess);
         }
-        by.hold(x, root_guessed(x), 0);
+        for guess in EDGE_GUESSES {
+            by.hold_by(x, guess);
+        }
+        by.hold(x, root_guessed(x), 0.0);
     }
     [sqrt, near, by]
 }

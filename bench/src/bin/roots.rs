@@ -25,8 +25,8 @@ fn main() {
         "chain",
         least(|| chain(proved_root, &normal), || chain(f64::sqrt, &normal)),
     );
-    let guessed: Vec<(f64, u64)> = (0..COUNT).map(|_| guessed(&mut random)).collect();
-    for &(a, guess) in &guessed {
+    let guessed: Vec<[f64; 2]> = (0..COUNT).map(|_| guessed(&mut random)).collect();
+    for &[a, guess] in &guessed {
         assert!(
             same(root_by(a, guess), a.sqrt()),
             "the roots of {a:e} differ"
@@ -95,9 +95,9 @@ fn chain(root: impl Fn(f64) -> f64, numbers: &[f64]) {
 
 /// Each root waits for the one before it, by a product with zero, which changes no number but has to
 /// be worked out.
-fn chain_by(root: impl Fn(f64, u64) -> f64, numbers: &[(f64, u64)]) {
+fn chain_by(root: impl Fn(f64, f64) -> f64, numbers: &[[f64; 2]]) {
     let mut last = 1.0;
-    for &(a, guess) in numbers {
+    for &[a, guess] in numbers {
         last = root(a + last * 0.0, guess);
     }
     black_box(last);
@@ -127,10 +127,10 @@ fn normal(random: &mut Random) -> f64 {
 }
 
 /// 1 + x * x for an x from -1 to 1, and the guess for its root.
-fn guessed(random: &mut Random) -> (f64, u64) {
+fn guessed(random: &mut Random) -> [f64; 2] {
     let x = 2.0 * random.part() - 1.0;
     let a = 1.0 + x * x;
-    (a, guesses(a)[0])
+    [a, guesses(a)[0]]
 }
 
 /// Two numbers as near to the square of an offset as the squared lengths are that joins have.

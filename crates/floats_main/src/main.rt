@@ -49,29 +49,29 @@ const GUESSES: [u64; 16] = [
     0x1ff2_3456_789a_bcde,
 ];
 
-// From 1 to 2, with the ends, the squares of 9/8, 5/4, 11/8 and 1 + 2^-26, and the numbers next to
-// these; and two numbers past each end.
+// 1 and 2, the squares of 9/8, 5/4, 11/8 and 1 + 2^-26, the first and the last border of the tables of
+// guesses, 1 + 1/64 and 1 + 63/64, and numbers next to these. Two of the squares are borders too.
 const WITHIN: [u64; 20] = [
-    0x3fef_ffff_ffff_fffe,
     0x3fef_ffff_ffff_ffff,
     0x3ff0_0000_0000_0000,
     0x3ff0_0000_0000_0001,
-    0x3ff0_0000_0000_0002,
     0x3ff0_0000_0800_0000,
     0x3ff0_0000_0800_0001,
     0x3ff0_0000_0800_0002,
+    0x3ff0_3fff_ffff_ffff,
+    0x3ff0_4000_0000_0000,
+    0x3ff0_4000_0000_0001,
     0x3ff4_4000_0000_0000,
     0x3ff4_4000_0000_0001,
-    0x3ff8_0000_0000_0000,
-    0x3ff8_ffff_ffff_ffff,
     0x3ff9_0000_0000_0000,
     0x3ffe_3fff_ffff_ffff,
     0x3ffe_4000_0000_0000,
-    0x3fff_ffff_ffff_fffe,
+    0x3fff_bfff_ffff_ffff,
+    0x3fff_c000_0000_0000,
+    0x3fff_c000_0000_0001,
     0x3fff_ffff_ffff_ffff,
     0x4000_0000_0000_0000,
     0x4000_0000_0000_0001,
-    0x4000_0000_0000_0002,
 ];
 
 fn print(word: &[u8]) {
@@ -176,27 +176,34 @@ fn near(x: f64, y: f64, g: f64) {
     print(b"\n");
 }
 
+fn print_root(a: f64, guess: f64) {
+    print_bits(floats::sqrt_by(a, guess));
+}
+
 // The root of one number by guesses that are good, near and bad.
 fn guessed(a: f64) {
     let guesses = floats::guess(a);
+    let g = guesses.first;
     print(b"guessed");
     print_bits(a);
-    print_bits(floats::sqrt_by(a, guesses.first));
-    print_bits(floats::sqrt_by(a, guesses.second));
-    print_bits(floats::sqrt_by(a, guesses.third));
-    print_bits(floats::sqrt_by(a, std::num::wrapping_add_u64(guesses.first, 1)));
-    print_bits(floats::sqrt_by(a, std::num::wrapping_sub_u64(guesses.first, 1)));
-    print_bits(floats::sqrt_by(
-        a,
-        std::num::wrapping_add_u64(guesses.first, 0x0001_0000_0000),
-    ));
-    print_bits(floats::sqrt_by(a, std::num::wrapping_sub_u64(guesses.first, 0x0004_0000)));
-    print_bits(floats::sqrt_by(a, 0));
-    print_bits(floats::sqrt_by(a, 1));
-    print_bits(floats::sqrt_by(a, 0x5a82_799a));
-    print_bits(floats::sqrt_by(a, 0x8000_0000));
-    print_bits(floats::sqrt_by(a, 0xffff_ffff));
-    print_bits(floats::sqrt_by(a, 0xffff_ffff_ffff_ffff));
+    print_root(a, g);
+    print_root(a, guesses.second);
+    print_root(a, guesses.third);
+    print_root(a, further(g, 1));
+    print_root(a, further(g, 0xffff_ffff_ffff_ffff));
+    print_root(a, further(g, 300));
+    print_root(a, further(g, 0xffff_ffff_ffff_fed4));
+    print_root(a, g + g / 1048576.0);
+    print_root(a, g - g / 1000.0);
+    print_root(a, 0.0);
+    print_root(a, -1.0);
+    print_root(a, 1.0);
+    print_root(a, 1.4142135623730951);
+    print_root(a, 2.0);
+    print_root(a, 1e308);
+    print_root(a, 1.0 / 0.0);
+    print_root(a, 0.0 / 0.0);
+    print_root(a, a);
     print(b"\n");
 }
 

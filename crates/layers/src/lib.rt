@@ -32,10 +32,10 @@ pub extern "C" fn layers_roots_near(x: f64, y: f64, g: f64, out: &mut [f64; 2])
 
 // floats::sqrt_by
 #[no_mangle]
-pub extern "C" fn layers_sqrt_by(a: f64, y: u64) -> f64
+pub extern "C" fn layers_sqrt_by(a: f64, g: f64) -> f64
     ensures { λ r. ⌜ r ≡ sqrtOf a ⌝ }
 {
-    floats::sqrt_by(a, y)
+    floats::sqrt_by(a, g)
 }
 
 // floats::sqrt_by, by the first guess for a
@@ -49,7 +49,7 @@ pub extern "C" fn layers_sqrt_guessed(a: f64) -> f64
 
 // floats::guess: three guesses, of which nothing is promised
 #[no_mangle]
-pub extern "C" fn layers_guess(a: f64, out: &mut [u64; 3]) {
+pub extern "C" fn layers_guess(a: f64, out: &mut [f64; 3]) {
     let guesses = floats::guess(a);
     *out = [guesses.first, guesses.second, guesses.third];
 }

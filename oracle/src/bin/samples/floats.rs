@@ -50,32 +50,32 @@ const GUESSES: [f64; 16] = [
     f64::from_bits(0x1ff2_3456_789a_bcde),
 ];
 
-/// From 1 to 2, where a guess is of use, and beside it.
+/// From 1 to 2, where a guess is of use, with borders of its tables; and beside it.
 const WITHIN: [f64; 20] = [
-    1.0_f64.next_down().next_down(),
     1.0_f64.next_down(),
     1.0,
     1.0_f64.next_up(),
-    1.0_f64.next_up().next_up(),
     1.0 + 1.0 / 33_554_432.0,
     (1.0 + 1.0 / 33_554_432.0_f64).next_up(),
     (1.0 + 1.0 / 33_554_432.0_f64).next_up().next_up(),
+    1.015625_f64.next_down(),
+    1.015625,
+    1.015625_f64.next_up(),
     1.265625,
     1.265625_f64.next_up(),
-    1.5,
-    1.5625_f64.next_down(),
     1.5625,
     1.890625_f64.next_down(),
     1.890625,
-    2.0_f64.next_down().next_down(),
+    1.984375_f64.next_down(),
+    1.984375,
+    1.984375_f64.next_up(),
     2.0_f64.next_down(),
     2.0,
     2.0_f64.next_up(),
-    2.0_f64.next_up().next_up(),
 ];
 
 /// By how many guesses the program finds a root.
-const WAYS: usize = 13;
+const WAYS: usize = 18;
 
 /// Near the origin in x, in y, in both; as far from it as the tolerance.
 const BESIDE: [[f64; 2]; 4] = [[0.005, 1.0], [1.0, 0.005], [0.005, -0.005], [0.01, 0.0]];
