@@ -1,12 +1,14 @@
 -- The code's steps make the rules' arc tangent and direction. Assumes nothing.
-use mathlib.Core.Path.{_≡_, refl}
+use mathlib.Core.Path.{_≡_, refl, ap, _∙_}
 use mathlib.Core.Bool.{Bool, true, false}
 use lib.Ieee.{Float, lt, le, eq}
 use Rattle.floats.specs.Binary64.{_⊖_, _⊘_, zero, one}
 use Rattle.floats.specs.Choice.{pick, _and_}
 use Rattle.floats.specs.Size.{absOf}
+use Rattle.floats.proofs.Choice.{no}
 use Rattle.angles.specs.Angle.{halve, atanSmall, quarterTurn, atanOf, wideAngle, directionOf}
 use Rattle.angles.specs.Steps.{series, reduced, restored, slope, wideBy, directionBy}
+use Rattle.angles.proofs.Gentle.{gentle-slope}
 
 atan-by :
     (steep : Bool) (x : Float) →
@@ -28,6 +30,18 @@ direction-by true wide x y = refl
 direction-by false true x y = refl
 direction-by false false x y = refl
 
+pub small-steps : (x : Float) → series (halve (halve (halve x))) ≡ atanSmall x
+unfolding series atanSmall
+small-steps x = refl
+
 pub direction-steps : (x y : Float) → directionBy x y (atanOf (slope x y)) ≡ directionOf x y
 unfolding slope directionBy directionOf
 direction-steps x y = direction-by (eq x zero and eq y zero) (le (absOf y) (absOf x)) x y
+
+-- a slope needs no reducing
+slope-small : (x y : Float) → atanSmall (slope x y) ≡ atanOf (slope x y)
+unfolding atanOf
+slope-small x y = no _ _ _ (gentle-slope x y) refl
+
+pub direction-small : (x y : Float) → directionBy x y (atanSmall (slope x y)) ≡ directionOf x y
+direction-small x y = ap (directionBy x y) (slope-small x y) ∙ direction-steps x y
