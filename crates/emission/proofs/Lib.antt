@@ -12,3 +12,4 @@ pub mod Near
 pub mod Choices
 pub mod Closing
 pub mod Drawn
+pub mod Later

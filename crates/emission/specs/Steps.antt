@@ -3,7 +3,7 @@
 use mathlib.Core.Path.{_≡_}
 use Prim.Native.Nat.{ℕ, _+_, _*_, _-_, _≤_}
 use mathlib.Core.List.{List, [], _∷_, _++_}
-use mathlib.Core.Bool.{true, false}
+use mathlib.Core.Bool.{Bool, true, false}
 use lib.Dec.{eqb, ltb}
 use lib.ListN.{length, set, take, drop, replicate}
 use lib.Seq.{sets}
@@ -75,6 +75,21 @@ emitted e m s = pick (near (s .pen .last) (m .end) e) s (drawn m s)
 unfoldable pub emits : Float → List Move → Sheet → Sheet
 emits e [] s = s
 emits e (m ∷ ms) s = emits e ms (emitted e m s)
+
+-- ---- a bulge that is written later
+
+-- b as the bulge of the vertex at place k, where t holds
+unfoldable pub bulgedAt : Bool → ℕ → Float → List Float → List Float
+bulgedAt t k b ns = pick t (set ns (3 * k + 2) b) ns
+
+abbrev pub bulged : Bool → ℕ → Float → Sheet → Sheet
+bulged t k b s = sheet (s .pen) (record { vertices = bulgedAt t k b (s .buffers .vertices); flags = s .buffers .flags; indexes = s .buffers .indexes })
+
+-- a move with another bulge
+abbrev pub withBulge : Float → Move → Move
+withBulge b m = record { end = m .end; bulge = b; invalid = m .invalid; origin = m .origin }
+
+-- ---- room
 
 -- there is room for t moves more
 pub record Rooms (t : ℕ) (pen : Pen) (b : Buffers) : Type 0 where

@@ -1,11 +1,12 @@
 -- What the walk works out ahead and carries along of an offset segment, and what it is by the rules. No rule rests on these. Definitions only.
 use mathlib.Core.Path.{_≡_}
-use mathlib.Core.Bool.{Bool, false}
+use mathlib.Core.Bool.{Bool, true, false}
 use lib.Ieee.{Float, lt}
-use Rattle.floats.specs.Binary64.{zero}
+use Rattle.floats.specs.Binary64.{_⊖_, _⊗_, zero}
+use Rattle.floats.specs.Choice.{pick}
 use Rattle.vectors.specs.Plane.{_⊟_, lengthOf}
 use Rattle.vectors.specs.declared.Vector2.{Vector2}
-use Rattle.angles.specs.Angle.{angleOf}
+use Rattle.angles.specs.Angle.{angleOf, bulgeOf}
 use Rattle.segments.specs.declared.PlineVertex.{PlineVertex}
 use Rattle.segments.specs.declared.ArcSupport.{ArcSupport}
 use Rattle.segments.specs.declared.RawOffsetArc.{RawOffsetArc}
@@ -52,3 +53,17 @@ Marked s = mark s ≡ markDue s
 pub record Carries (s : CarriedSeg) (g : RawOffsetSeg) : Type 0 where
   pub full : fullSeg s ≡ g
   pub marked : Marked s
+
+-- what a span's bulge is made of: whether its segment is an arc, and what it sweeps
+abbrev pub isArc : RawOffsetSeg → Bool
+isArc (Full.Line l) = false
+isArc (Full.Arc a) = true
+isArc (Full.Collapsed a) = false
+
+abbrev pub spanSweep : RawOffsetSeg → Float → Float → Float
+spanSweep (Full.Line l) from to = zero
+spanSweep (Full.Arc a) from to = a .sweep ⊗ (to ⊖ from)
+spanSweep (Full.Collapsed a) from to = zero
+
+unfoldable pub bulgeBy : Bool → Float → Float
+bulgeBy curved sweep = pick curved (bulgeOf sweep) zero

@@ -3,19 +3,20 @@
 -- angle to be worked out, or has it from a join; `stands` is where it stands by the rules. Definitions only.
 use mathlib.Core.Path.{_≡_}
 use Prim.Native.Nat.{ℕ, _+_, _*_, _-_, _≤_, _<_}
-use mathlib.Core.Bool.{Bool, false}
+use mathlib.Core.Bool.{Bool, false, not}
 use mathlib.Core.List.{List, [], _∷_, _++_}
 use lib.ListN.{length, take, drop}
 use lib.Ieee.{Float}
+use Rattle.floats.specs.Choice.{_and_}
+use Rattle.vectors.specs.Plane.{near}
 use Rattle.segments.specs.declared.PlineVertex.{PlineVertex}
 use Rattle.segments.specs.declared.RawOffsetSeg.{RawOffsetSeg}
 use Rattle.segments.specs.Vertex.{posOf}
 use Rattle.segments.specs.declared.RawOffsetSeg.the-variants.{Line}
 use Rattle.segments.specs.Segment.{offsetSeg, startOf}
 use Rattle.segments.specs.declared.SourceSegment.{SourceSegment}
-use Rattle.segments.specs.Vertex.{bulgeIsZero}
-use Rattle.segments.specs.Steps.{chordOf, fullSeg, Marked}
-use Rattle.angles.specs.Angle.{sweepOf}
+use Rattle.segments.specs.Steps.{fullSeg, Marked, bulgeBy}
+use Rattle.angles.specs.Angle.{bulgeOf}
 use Rattle.joins.specs.Steps.{seenSeg}
 use Rattle.joins.specs.declared.JoinClass.the-variants.{Coincident}
 use Rattle.joins.specs.Boundary.{straight}
@@ -26,11 +27,12 @@ use Rattle.emission.specs.declared.Move.{Move}
 use Rattle.emission.specs.declared.Pen.{Pen}
 use Rattle.emission.specs.Drawing.{Drawing}
 use Rattle.emission.specs.Buffers.{Buffers}
-use Rattle.emission.specs.Steps.{Sheet, sheet, penAt, emitted, emits, Rooms, Within}
+use Rattle.emission.specs.Steps.{Sheet, sheet, penAt, emitted, emits, bulged, withBulge, Rooms, Within}
 use Rattle.refusals.specs.Source.{verticesOf}
 use Rattle.refusals.specs.Steps.{vertexOf}
 use Rattle.walk.specs.declared.Walker.{Walker}
 use Rattle.walk.specs.declared.Turned.{Turned}
+use Rattle.walk.specs.declared.Later.{Later}
 use Rattle.walk.specs.declared.Walked.{Walked}
 use Rattle.walk.specs.Walk.{spanMove, connectorMove, closingJoin, walkStart, walkMoves, walkDrawing}
 
@@ -80,13 +82,13 @@ pub record Turn : Type 0 where
   pub connector : Move
   pub walker : Standing
 
+-- the code's: its span has its bulge still to come
 abbrev pub turnShown : Turned → Turn
-turnShown t = record { span = t .span; connector = t .connector; walker = stands (t .walker) }
+turnShown t = record { span = withBulge (bulgeBy (t .curved) (t .sweep)) (t .span); connector = t .connector; walker = stands (t .walker) }
 
--- what is worked out ahead for the segment from v to w: its chord and, if it is an arc, its sweep
-pub record Ahead (v w : PlineVertex) (chord sweep : Float) : Type 0 where
-  pub long : chord ≡ chordOf v w
-  pub swept : bulgeIsZero v ≡ false → sweep ≡ sweepOf (v .bulge)
+-- what is left to be written of a span that the pen p draws: its bulge, unless it is straight or dropped
+unfoldable pub laterOf : Pen → Move → Bool → Float → Float → Later
+laterOf p m curved sweep ε = record { due = curved and not (near (p .last) (m .end) ε); place = p .kept; sweep = sweep }
 
 -- on to the segment from the walker's vertex to c: the span and the connector that lead there
 unfoldable pub turnOf : Standing → PlineVertex → Float → Float → Turn
@@ -114,6 +116,10 @@ trailOf w b = record { walker = w .walker; sheet = sheet (w .pen) b }
 
 abbrev pub trail : Walked → Buffers → Trail
 trail w b = trailOf (stood w) b
+
+-- with the bulge that is left to be written counted as written
+abbrev pub trailLater : Walked → Later → Buffers → Trail
+trailLater w l b = record { walker = stands (w .walker); sheet = bulged (l .due) (l .place) (bulgeOf (l .sweep)) (sheet (w .pen) b) }
 
 -- one turn, drawn
 unfoldable pub advanced : Float → Float → PlineVertex → Trail → Trail
