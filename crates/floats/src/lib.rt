@@ -290,13 +290,30 @@ fn near_to_unit(g: f64) -> Near {
     }
 }
 
+// As `is_sqrt`, for an a from 1 to 2: its exponent is known, and what is left is compiled into each arc
+// tangent.
+fn is_sqrt_from_one(a: f64, r: f64) -> bool
+    ensures { λ t. ⌜ (t ≡ true → r ≡ sqrtOf a) ⌝ }
+{
+    if a > 0.0 {
+        if r > 0.0 {
+            let d = std::num::wrapping_sub_u64(f64::to_bits(a), 1023 * HID);
+            let q = std::num::wrapping_sub_u64(f64::to_bits(r), 1022 * HID);
+            if d <= HID {
+                return is_nearest(d + HID, q);
+            }
+        }
+    }
+    false
+}
+
 // √a to the nearest f64, quickly found if a is from 1 to 2 and g is near its root: what comes after need
 // not wait for the test of the candidate.
 pub fn sqrt_by(a: f64, g: f64) -> f64
     ensures { λ r. ⌜ r ≡ sqrtOf a ⌝ }
 {
     let r = candidate(a, near_to_unit(g));
-    if is_sqrt(a, r) {
+    if is_sqrt_from_one(a, r) {
         return r;
     }
     sqrt(a)
