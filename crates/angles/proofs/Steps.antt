@@ -17,9 +17,16 @@ unfolding pick
 atan-by true x = refl
 atan-by false x = refl
 
+pub atan-restored : (x : Float) → restored x (atanSmall (reduced x)) ≡ atanOf x
+unfolding reduced restored atanOf
+atan-restored x = atan-by (lt one (absOf x)) x
+
+pub small-steps : (x : Float) → series (halve (halve (halve x))) ≡ atanSmall x
+unfolding series atanSmall
+small-steps x = refl
+
 pub atan-steps : (x : Float) → restored x (series (halve (halve (halve (reduced x))))) ≡ atanOf x
-unfolding series reduced restored atanSmall atanOf
-atan-steps x = atan-by (lt one (absOf x)) x
+atan-steps x = ap (restored x) (small-steps (reduced x)) ∙ atan-restored x
 
 direction-by :
     (none wide : Bool) (x y : Float) →
@@ -29,10 +36,6 @@ unfolding pick wideBy wideAngle
 direction-by true wide x y = refl
 direction-by false true x y = refl
 direction-by false false x y = refl
-
-pub small-steps : (x : Float) → series (halve (halve (halve x))) ≡ atanSmall x
-unfolding series atanSmall
-small-steps x = refl
 
 pub direction-steps : (x y : Float) → directionBy x y (atanOf (slope x y)) ≡ directionOf x y
 unfolding slope directionBy directionOf

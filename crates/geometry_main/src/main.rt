@@ -192,23 +192,31 @@ fn print_four(name: &[u8], four: Four) {
     print_number(four.fourth);
 }
 
-// Angles and sweeps that are worked out side by side.
+fn two_directions(a: Vector2, b: Vector2) -> Pair {
+    angles::two_directions(a.x, a.y, b.x, b.y)
+}
+
+fn three_directions(a: Vector2, b: Vector2, c: Vector2) -> Three {
+    angles::three_directions(a.x, a.y, b.x, b.y, c.x, c.y)
+}
+
+fn four_directions(a: Vector2, b: Vector2, c: Vector2, d: Vector2) -> Four {
+    angles::four_directions(a.x, a.y, b.x, b.y, c.x, c.y, d.x, d.y)
+}
+
+// Directions and sweeps that are worked out side by side.
 fn together_row(function: u64, row: &[u8; 128]) {
     let a = vector(row, 1);
     let b = vector(row, 3);
     let c = vector(row, 5);
     let d = vector(row, 7);
     match function {
-        12 => print_pair(b"two_angles", angles::two_angles(a, b, c)),
-        13 => print_three(b"three_angles", angles::three_angles(a, b, c, d)),
-        14 => print_four(
-            b"four_angles",
-            angles::four_angles(a, b, c, d, vector(row, 9)),
-        ),
-        _ => print_pair(
-            b"two_sweeps",
-            angles::two_sweeps(number(row, 1), number(row, 2)),
-        ),
+        12 => print_named(b"direction_of", angles::direction_of(a.x, a.y)),
+        13 => print_pair(b"two_directions", two_directions(a, b)),
+        14 => print_three(b"three_directions", three_directions(a, b, c)),
+        15 => print_four(b"four_directions", four_directions(a, b, c, d)),
+        16 => print_pair(b"two_sweeps", angles::two_sweeps(a.x, a.y)),
+        _ => print_four(b"four_sweeps", angles::four_sweeps(a.x, a.y, b.x, b.y)),
     }
 }
 

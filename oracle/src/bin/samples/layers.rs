@@ -262,73 +262,44 @@ fn angles(rows: &mut Rows) {
         }
     }
     together(rows, &[spokes.as_slice(), &FAR].concat());
-    two_sweeps(rows, &ratios);
+    sweeps_together(rows, &ratios);
 }
 
-/// Two, three and four angles that are worked out side by side: each spoke's end in each place of
-/// each function, beside the ends of others and beside itself.
+/// One to four directions that are worked out side by side: each spoke in each place of each function,
+/// beside others and beside itself.
 fn together(rows: &mut Rows, spokes: &[[f64; 2]]) {
-    let [origin, other] = CENTERS;
+    let names = [
+        "direction_of",
+        "two_directions",
+        "three_directions",
+        "four_directions",
+    ];
     for i in 0..spokes.len() {
         for step in [0, 7] {
-            let [s, t, u] = [0, step, 2 * step].map(|k| spokes[(i + k) % spokes.len()]);
-            two_angles(rows, [origin, s, t]);
-            two_angles(rows, [other, beside(s), beside(t)]);
-            three_angles(rows, [origin, other, beside(s), t]);
-            four_angles(rows, [origin, s, other, beside(t), u]);
+            let lanes = [0, 1, 2, 3].map(|k| spokes[(i + k * step) % spokes.len()]);
+            for (k, name) in names.iter().enumerate() {
+                let vectors = &lanes[..=k];
+                let angles: Vec<f64> = vectors.iter().map(|v| direction(*v)).collect();
+                rows.add(name, vectors.as_flattened(), &words(&angles));
+            }
         }
     }
-    // Each centre at the other, and at the point and a start.
-    for c in CENTERS {
-        let p = [3.0, -2.0];
-        three_angles(rows, [c, c, p, p]);
-        three_angles(rows, [p, c, c, p]);
-        four_angles(rows, [c, p, c, p, p]);
-        four_angles(rows, [p, c, c, c, p]);
-        four_angles(rows, [c, c, p, c, c]);
-    }
 }
 
-/// The end of a spoke from the second centre. One from the origin is its own end: added to it, a −0
-/// would be lost.
-fn beside(spoke: [f64; 2]) -> [f64; 2] {
-    let [_, center] = CENTERS;
-    [center[0] + spoke[0], center[1] + spoke[1]]
+/// The angle at which a vector's end is seen from its start. Less a zero, each number stays as it is, a
+/// −0 too.
+fn direction(vector: [f64; 2]) -> f64 {
+    angle(point(&[0.0, 0.0]), point(&vector))
 }
 
-fn seen(center: [f64; 2], end: [f64; 2]) -> f64 {
-    angle(point(&center), point(&end))
-}
-
-fn two_angles(rows: &mut Rows, at: [[f64; 2]; 3]) {
-    let [center, start, end] = at;
-    let output = words(&[seen(center, start), seen(center, end)]);
-    rows.add("two_angles", &at.concat(), &output);
-}
-
-fn three_angles(rows: &mut Rows, at: [[f64; 2]; 4]) {
-    let [center, other, start, end] = at;
-    let output = words(&[seen(center, end), seen(other, start), seen(other, end)]);
-    rows.add("three_angles", &at.concat(), &output);
-}
-
-fn four_angles(rows: &mut Rows, at: [[f64; 2]; 5]) {
-    let [center, start, other, other_start, end] = at;
-    let output = words(&[
-        seen(center, start),
-        seen(center, end),
-        seen(other, other_start),
-        seen(other, end),
-    ]);
-    rows.add("four_angles", &at.concat(), &output);
-}
-
-/// Each bulge beside itself and beside others, in either place.
-fn two_sweeps(rows: &mut Rows, bulges: &[f64]) {
-    for (i, bulge) in bulges.iter().enumerate() {
+/// Two and four: each bulge in each place, beside others and beside itself.
+fn sweeps_together(rows: &mut Rows, bulges: &[f64]) {
+    for i in 0..bulges.len() {
         for step in [0, 7] {
-            let both = [*bulge, bulges[(i + step) % bulges.len()]];
-            rows.add("two_sweeps", &both, &words(&both.map(angle_from_bulge)));
+            let four = [0, 1, 2, 3].map(|k| bulges[(i + k * step) % bulges.len()]);
+            let all = four.map(angle_from_bulge);
+            rows.add("two_sweeps", &four[..2], &words(&all[..2]));
+            rows.add("four_sweeps", &four, &words(&all));
         }
     }
 }
