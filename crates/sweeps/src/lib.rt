@@ -1,7 +1,8 @@
 // The sweeps of the bulges that a walk has met, kept for the arcs to come: most drawings have few
 // different bulges.
 ghost use mathlib.Core.Path.{_≡_};
-ghost use Prim.Native.Nat.{_<_};
+ghost use Prim.Native.Nat.{_*_, _≤_, _<_};
+ghost use lib.ListN.{length};
 ghost use Rattle.angles.specs.Angle.{sweepOf};
 ghost use Rattle.sweeps.specs.Steps.{Kept};
 
@@ -14,10 +15,62 @@ fn slot(bits: u64) -> usize
     ((leading + digits) % 16) as usize
 }
 
-// A bulge's sweep. One that is not kept yet is worked out side by side with the next vertex's, and
-// both are kept.
-pub fn sweep_of(keys: &mut [u64; 16], sweeps: &mut [f64; 16], bulge: f64, ahead: f64) -> f64
+// Keeps a bulge's sweep in its slot, whatever that had.
+fn keep(keys: &mut [u64; 16], sweeps: &mut [f64; 16], bulge: f64, sweep: f64)
+    requires { ⌜ Kept (now keys) (now sweeps) × (sweep ≡ sweepOf bulge) ⌝ }
+    ensures { λ _. ⌜ Kept (now (keys .exit)) (now (sweeps .exit)) ⌝ }
+{
+    let b = bits::bits_of(bulge);
+    let j = slot(b);
+    keys[j] = b;
+    sweeps[j] = sweep;
+}
+
+// A bulge's sweep, worked out side by side with the next one's, and both kept: the next one's last, so
+// that no other takes its slot.
+fn keep_two(keys: &mut [u64; 16], sweeps: &mut [f64; 16], bulge: f64, next: f64) -> f64
     requires { ⌜ Kept (now keys) (now sweeps) ⌝ }
+    ensures { λ r. ⌜ (r ≡ sweepOf bulge) × Kept (now (keys .exit)) (now (sweeps .exit)) ⌝ }
+{
+    let both = angles::two_sweeps(bulge, next);
+    keep(keys, sweeps, bulge, both.first);
+    keep(keys, sweeps, next, both.second);
+    both.first
+}
+
+// The same with those of two more.
+fn keep_four(
+    keys: &mut [u64; 16],
+    sweeps: &mut [f64; 16],
+    bulge: f64,
+    next: f64,
+    third: f64,
+    fourth: f64,
+) -> f64
+    requires { ⌜ Kept (now keys) (now sweeps) ⌝ }
+    ensures { λ r. ⌜ (r ≡ sweepOf bulge) × Kept (now (keys .exit)) (now (sweeps .exit)) ⌝ }
+{
+    let all = angles::four_sweeps(bulge, next, third, fourth);
+    keep(keys, sweeps, bulge, all.first);
+    keep(keys, sweeps, fourth, all.fourth);
+    keep(keys, sweeps, third, all.third);
+    keep(keys, sweeps, next, all.second);
+    all.first
+}
+
+// A bulge's sweep, where vertex k comes next. If neither it nor the next one's is kept, and two vertices
+// more come before `stop`, four are worked out at once: a drawing in which no two bulges are alike takes
+// one such step for four arcs.
+pub fn sweep_of(
+    keys: &mut [u64; 16],
+    sweeps: &mut [f64; 16],
+    bulge: f64,
+    source: &[f64],
+    k: usize,
+    stop: usize,
+) -> f64
+    requires { ⌜ Kept (now keys) (now sweeps) ⌝ }
+    requires { ⌜ (k < stop) × (3 * stop ≤ length (now source)) ⌝ }
     ensures { λ r. ⌜ (r ≡ sweepOf bulge) × Kept (now (keys .exit)) (now (sweeps .exit)) ⌝ }
 {
     let b = bits::bits_of(bulge);
@@ -25,12 +78,14 @@ pub fn sweep_of(keys: &mut [u64; 16], sweeps: &mut [f64; 16], bulge: f64, ahead:
     if keys[j] == b {
         return sweeps[j];
     }
-    let both = angles::two_sweeps(bulge, ahead);
-    let a = bits::bits_of(ahead);
-    let i = slot(a);
-    keys[i] = a;
-    sweeps[i] = both.second;
-    keys[j] = b;
-    sweeps[j] = both.first;
-    both.first
+    let next = refusals::vertex_at(source, k).bulge;
+    if k + 2 < stop {
+        let a = bits::bits_of(next);
+        if keys[slot(a)] != a {
+            let third = refusals::vertex_at(source, k + 1).bulge;
+            let fourth = refusals::vertex_at(source, k + 2).bulge;
+            return keep_four(keys, sweeps, bulge, next, third, fourth);
+        }
+    }
+    keep_two(keys, sweeps, bulge, next)
 }
