@@ -1,11 +1,11 @@
 -- A bulge may be written after its move is emitted, and the next one too. Assumes nothing.
 use mathlib.Core.Path.{_≡_, refl, sym, ap, _∙_}
 use mathlib.Core.Bool.{Bool, true, false, not}
-use mathlib.Core.List.{List, [], _∷_}
-use Prim.Native.Nat.{ℕ, zero, suc, _+_, _*_, _<_, _≤_}
-use native.Mathlib.Nat.{not-suc-le-zero, le-of-suc-le-suc}
+use mathlib.Core.List.{List}
+use Prim.Native.Nat.{ℕ, suc, _+_, _*_, _<_, _≤_}
 use native.Mathlib.Omega.{arith}
 use lib.ListN.{set}
+use lib.Seq.{set-set, set-comm}
 use lib.Ieee.{Float}
 use Rattle.floats.specs.Choice.{pick}
 use Rattle.vectors.specs.Plane.{near}
@@ -15,29 +15,18 @@ use Rattle.emission.specs.Steps.{Sheet, sheet, penAfter, putAt, stored, 
 use Rattle.emission.proofs.Laws.{add-two}
 use Rattle.emission.proofs.Emitted.{emitted-near, emitted-far}
 
--- ---- a place written twice, and two places
-set-over : (l : List Float) (i : ℕ) (a b : Float) → set (set l i a) i b ≡ set l i b
-set-over [] i a b = refl
-set-over (x ∷ l) zero a b = refl
-set-over (x ∷ l) (suc i) a b = ap (λ (t : List Float). x ∷ t) (set-over l i a b)
-
-set-apart : (l : List Float) (i j : ℕ) (a b : Float) → i < j → set (set l i a) j b ≡ set (set l j b) i a
-set-apart [] i j a b h = refl
-set-apart (x ∷ l) i zero a b h = absurd (not-suc-le-zero h)
-set-apart (x ∷ l) zero (suc j) a b h = refl
-set-apart (x ∷ l) (suc i) (suc j) a b h = ap (λ (t : List Float). x ∷ t) (set-apart l i j a b (le-of-suc-le-suc h))
-
+-- ---- a stored vertex
 -- a vertex is stored with a bulge, or with another one and then that
 put-over : (l : List Float) (k : ℕ) (x y a b : Float) → putAt l k (record { x = x; y = y; bulge = b }) ≡ set (putAt l k (record { x = x; y = y; bulge = a })) (3 * k + 2) b
-put-over l k x y a b = rw add-two (sym (set-over (set (set l (3 * k) x) (suc (3 * k)) y) (suc (suc (3 * k))) a b))
+put-over l k x y a b = rw add-two (sym (set-set (set (set l (3 * k) x) (suc (3 * k)) y) (suc (suc (3 * k))) a b))
 
 -- a vertex of a later place leaves it
 put-apart : (l : List Float) (k j : ℕ) (v : PlineVertex) (b : Float) → k < j → putAt (set l (3 * k + 2) b) j v ≡ set (putAt l j v) (3 * k + 2) b
 put-apart l k j v b h =
     let i = 3 * k + 2 in
-    ap (λ (t : List Float). set (set t (suc (3 * j)) (v .y)) (suc (suc (3 * j))) (v .bulge)) (set-apart l i (3 * j) b (v .x) (omega arith))
-    ∙ ap (λ (t : List Float). set t (suc (suc (3 * j))) (v .bulge)) (set-apart (set l (3 * j) (v .x)) i (suc (3 * j)) b (v .y) (omega arith))
-    ∙ set-apart (set (set l (3 * j) (v .x)) (suc (3 * j)) (v .y)) i (suc (suc (3 * j))) b (v .bulge) (omega arith)
+    ap (λ (t : List Float). set (set t (suc (3 * j)) (v .y)) (suc (suc (3 * j))) (v .bulge)) (set-comm l i (3 * j) b (v .x) (λ e. omega (arith, h, e)))
+    ∙ ap (λ (t : List Float). set t (suc (suc (3 * j))) (v .bulge)) (set-comm (set l (3 * j) (v .x)) i (suc (3 * j)) b (v .y) (λ e. omega (arith, h, e)))
+    ∙ set-comm (set (set l (3 * j) (v .x)) (suc (3 * j)) (v .y)) i (suc (suc (3 * j))) b (v .bulge) (λ e. omega (arith, h, e))
 
 -- ---- a kept move
 drawn-bulged : (m : Move) (b : Float) (s : Sheet) → drawn (withBulge b m) s ≡ bulged true (s .pen .kept) b (drawn m s)

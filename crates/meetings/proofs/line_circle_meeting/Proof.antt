@@ -28,7 +28,16 @@ returns-2 c =
 returns-3 : tie.Need-returns-3
 unfolding lineArcMeeting
 returns-3 c =
-    rw (← by-numbers _ _ _ (c .before .before .before .before .before .before .before .before .before .pre), ← c .before .before .before .before .before .before .line-circle-intr .ensures, c .before .before .before .before .intr2 .given .1, lineArcAt-is, lineArcAt-is, ← c .before .before .point-from-parametric2 .ensures, ← c .before .point-from-parametric3 .ensures)
+    let intr = c .before .before .before .before .before .before .line-circle-intr in
+    rw (
+      ← by-numbers _ _ _ (c .before .before .before .before .before .before .before .before .before .pre),
+      ← intr .ensures,
+      c .before .before .before .before .intr2 .given .1,
+      lineArcAt-is,
+      lineArcAt-is,
+      ← c .before .before .point-from-parametric2 .ensures,
+      ← c .before .point-from-parametric3 .ensures,
+    )
     (c .line-arc-nearer .ensures)
 
 pub line-circle-meeting-spec : {M : Type 1} → statement M

@@ -14,19 +14,19 @@ returns c =
     (found _ (start .args .bulge) (subst T (sym (start .good .1 .1 .0 .1)) tt) (c .before .before .before .before .bits-of .ensures) (start .pre .0) (c .before .before .before .slot .ensures) (c .before .if1 .taken), start .pre .0)
 
 vertex-at-requires : tie.Need-vertex-at-requires
-vertex-at-requires c κs = omega (arith, c .before .before .before .before .before .pre .1 .0, c .before .before .before .before .before .pre .1 .1)
+vertex-at-requires c κs = let start = c .before .before .before .before .before in omega (arith, start .pre .1 .0, start .pre .1 .1)
 
 add-if2 : tie.Need-add-if2
-add-if2 c = omega (arith, c .before .before .before .before .before .before .pre .1 .0, c .before .before .before .before .before .before .pre .1 .1, c .before .before .before .before .before .before .fits)
+add-if2 c = let start = c .before .before .before .before .before .before in omega (arith, start .pre .1 .0, start .pre .1 .1, start .fits)
 
 add-vertex-at : tie.Need-add-vertex-at
-add-vertex-at c = omega (arith, c .before .before .before .before .before .before .before .before .before .before .before .pre .1 .0, c .before .before .before .before .before .before .before .before .before .before .before .pre .1 .1, c .before .before .before .before .before .before .before .before .before .before .before .fits)
+add-vertex-at c = let start = c .before .before .before .before .before .before .before .before .before .before .before in omega (arith, start .pre .1 .0, start .pre .1 .1, start .fits)
 
 vertex-at-requires-2 : tie.Need-vertex-at-requires-2
 vertex-at-requires-2 c κs = omega (arith, c .before .before .before .before .if2 .taken, c .before .before .before .before .before .before .before .before .before .before .before .pre .1 .1)
 
 add-vertex-at-2 : tie.Need-add-vertex-at-2
-add-vertex-at-2 c = omega (arith, c .before .before .before .before .before .before .before .before .before .before .before .before .pre .1 .0, c .before .before .before .before .before .before .before .before .before .before .before .before .pre .1 .1, c .before .before .before .before .before .before .before .before .before .before .before .before .fits)
+add-vertex-at-2 c = let start = c .before .before .before .before .before .before .before .before .before .before .before .before in omega (arith, start .pre .1 .0, start .pre .1 .1, start .fits)
 
 vertex-at-requires-3 : tie.Need-vertex-at-requires-3
 vertex-at-requires-3 c κs = omega (arith, c .before .before .before .before .before .if2 .taken, c .before .before .before .before .before .before .before .before .before .before .before .before .pre .1 .1)
