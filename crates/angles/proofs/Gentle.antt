@@ -11,12 +11,12 @@ use lib.Ieee.Bits.{is-true}
 use lib.Ieee.{Float, nan, inf, fin, binary64, up, down, round, div, lt, le, ofBits}
 use lib.Ieee.Fits.{up-pos, down-pos}
 use Rattle.floats.specs.Binary64.{_⊘_, one}
-use Rattle.floats.specs.Choice.{pick}
+use Rattle.floats.specs.Choice.{when_give_else_}
 use Rattle.floats.specs.Size.{absOf}
 use Rattle.floats.proofs.Order.{number, fails, lt→nle, nle→le, le→fractions, round-at-most}
 use Rattle.floats.proofs.Monotone.{one-fits}
 use Rattle.floats.proofs.Signs.{abs-round}
-use Rattle.angles.specs.Steps.{slope}
+use Rattle.angles.specs.InnerSteps.{slope}
 
 -- what is rounded from at most 1 is not above it
 at-most-one : (a c : ℕ) → 0 < c → a ≤ c → T (le (round binary64 false a c) one)
@@ -67,6 +67,6 @@ pub gentle-slope : (x y : Float) → lt one (absOf (slope x y)) ≡ false
 unfolding slope
 gentle-slope x y = go (le (absOf y) (absOf x)) refl
   where
-    go : (wide : Bool) → le (absOf y) (absOf x) ≡ wide → lt one (absOf (pick wide (y ⊘ x) (x ⊘ y))) ≡ false
-    go true h = unfold pick in quotient y x h
-    go false h = unfold pick in other-way x y h
+    go : (wide : Bool) → le (absOf y) (absOf x) ≡ wide → lt one (absOf (when wide give y ⊘ x else x ⊘ y)) ≡ false
+    go true h = unfold when_give_else_ in quotient y x h
+    go false h = unfold when_give_else_ in other-way x y h

@@ -4,7 +4,7 @@ use mathlib.Core.Path.{_≡_, refl}
 use mathlib.Core.List.{List, [], _∷_}
 use Prim.Native.Nat.{ℕ}
 use lib.Ieee.{Float, binary64, ofBits, neg, add, sub, mul, div, lt, le, eq}
-use Rattle.floats.specs.Choice.{pick, _and_}
+use Rattle.floats.specs.Choice.{when_give_else_, _and_}
 use Rattle.floats.specs.Size.{absOf}
 use Rattle.floats.specs.Root.{sqrtOf}
 use Rattle.vectors.specs.declared.Vector2.{Vector2}
@@ -26,7 +26,7 @@ written ((a gives r) ∷ rows) = ofBits binary64 r ∷ written rows
 
 -- all that the rows look through
 unfoldable pub opened : Unit {0}
-unfolding pick _and_ absOf sqrtOf _⊟_ horner halve atanSmall quarterTurn atanOf tanStep tanOf wideAngle directionOf angleOf sweepOf bulgeOf normalizedAngle ofBits neg add sub mul div lt le eq
+unfolding when_give_else_ _and_ absOf sqrtOf _⊟_ horner halve atanSmall quarterTurn atanOf tanStep tanOf wideAngle directionOf angleOf sweepOf bulgeOf normalizedAngle ofBits neg add sub mul div lt le eq
 opened = tt
 
 abbrev pub at : (Float → Float) → ℕ → Float

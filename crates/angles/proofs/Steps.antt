@@ -3,17 +3,17 @@ use mathlib.Core.Path.{_≡_, refl, ap, _∙_}
 use mathlib.Core.Bool.{Bool, true, false}
 use lib.Ieee.{Float, lt, le, eq}
 use Rattle.floats.specs.Binary64.{_⊖_, _⊘_, zero, one}
-use Rattle.floats.specs.Choice.{pick, _and_}
+use Rattle.floats.specs.Choice.{when_give_else_, _and_}
 use Rattle.floats.specs.Size.{absOf}
 use Rattle.floats.proofs.Choice.{no}
 use Rattle.angles.specs.Angle.{halve, atanSmall, quarterTurn, atanOf, wideAngle, directionOf}
-use Rattle.angles.specs.Steps.{series, reduced, restored, slope, wideBy, directionBy}
+use Rattle.angles.specs.InnerSteps.{series, reduced, restored, slope, wideBy, directionBy}
 use Rattle.angles.proofs.Gentle.{gentle-slope}
 
 atan-by :
     (steep : Bool) (x : Float) →
-    (let a = atanSmall (pick steep (one ⊘ x) x) in pick steep (quarterTurn x ⊖ a) a) ≡ pick steep (quarterTurn x ⊖ atanSmall (one ⊘ x)) (atanSmall x)
-unfolding pick
+    (let a = atanSmall (when steep give one ⊘ x else x) in when steep give quarterTurn x ⊖ a else a) ≡ when steep give quarterTurn x ⊖ atanSmall (one ⊘ x) else atanSmall x
+unfolding when_give_else_
 atan-by true x = refl
 atan-by false x = refl
 
@@ -30,9 +30,9 @@ atan-steps x = ap (restored x) (small-steps (reduced x)) ∙ atan-restored x
 
 direction-by :
     (none wide : Bool) (x y : Float) →
-    (let a = atanOf (pick wide (y ⊘ x) (x ⊘ y)) in pick none zero (pick wide (wideBy x y a) (quarterTurn y ⊖ a)))
-    ≡ pick none zero (pick wide (wideAngle x y) (quarterTurn y ⊖ atanOf (x ⊘ y)))
-unfolding pick wideBy wideAngle
+    (let a = atanOf (when wide give y ⊘ x else x ⊘ y) in when none give zero else when wide give wideBy x y a else quarterTurn y ⊖ a)
+    ≡ when none give zero else when wide give wideAngle x y else quarterTurn y ⊖ atanOf (x ⊘ y)
+unfolding when_give_else_ wideBy wideAngle
 direction-by true wide x y = refl
 direction-by false true x y = refl
 direction-by false false x y = refl

@@ -2,7 +2,7 @@
 use mathlib.Core.List.{List, [], _∷_}
 use lib.Ieee.{Float, neg, lt, le, eq}
 use Rattle.floats.specs.Binary64.{_⊕_, _⊖_, _⊗_, _⊘_, zero, one, four, eight}
-use Rattle.floats.specs.Choice.{pick, _and_}
+use Rattle.floats.specs.Choice.{when_give_else_, _and_}
 use Rattle.floats.specs.Size.{absOf}
 use Rattle.floats.specs.Root.{sqrtOf}
 use Rattle.vectors.specs.declared.Vector2.{Vector2}
@@ -37,11 +37,11 @@ atanSmall x =
 
 -- ±π/2, minus only below zero
 unfoldable pub quarterTurn : Float → Float
-quarterTurn x = pick (lt x zero) (neg halfPi) halfPi
+quarterTurn x = when lt x zero give neg halfPi else halfPi
 
 -- atan: |x| > 1 gives ±π/2 − atan(1/x), and there |1/x| ≤ 1
 unfoldable pub atanOf : Float → Float
-atanOf x = pick (lt one (absOf x)) (quarterTurn x ⊖ atanSmall (one ⊘ x)) (atanSmall x)
+atanOf x = when lt one (absOf x) give quarterTurn x ⊖ atanSmall (one ⊘ x) else atanSmall x
 
 -- t ← (t+t)/(1−t·t): the tangent of twice the angle whose tangent is t
 unfoldable pub tanStep : Float → Float
@@ -60,14 +60,13 @@ tanOf x =
 unfoldable pub wideAngle : Float → Float → Float
 wideAngle x y =
     let a = atanOf (y ⊘ x) in
-    pick (lt x zero) (pick (le zero y) (a ⊕ pi) (a ⊖ pi)) a
+    when lt x zero give (when le zero y give a ⊕ pi else a ⊖ pi) else a
 
 -- the angle of (x, y): 0 if both are 0, then by |x| ≥ |y|, otherwise ±π/2 − atan(x/y), minus only if y < 0
 unfoldable pub directionOf : Float → Float → Float
 directionOf x y =
-    pick (eq x zero and eq y zero) zero
-    (pick (le (absOf y) (absOf x)) (wideAngle x y)
-    (quarterTurn y ⊖ atanOf (x ⊘ y)))
+    when eq x zero and eq y zero give zero else
+    when le (absOf y) (absOf x) give wideAngle x y else quarterTurn y ⊖ atanOf (x ⊘ y)
 
 -- 000's angle(center, point): that of point less centre
 unfoldable pub angleOf : Vector2 → Vector2 → Float
@@ -85,4 +84,4 @@ bulgeOf a = tanOf (a ⊘ four)
 
 -- 000's normalize_radians: 2π is added to a negative angle
 unfoldable pub normalizedAngle : Float → Float
-normalizedAngle a = pick (lt a zero) (a ⊕ twoPi) a
+normalizedAngle a = when lt a zero give a ⊕ twoPi else a

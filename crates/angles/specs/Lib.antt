@@ -1,3 +1,3 @@
 pub mod Tables
 pub mod Angle
-pub mod Steps
+pub mod InnerSteps

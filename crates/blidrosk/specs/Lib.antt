@@ -1,2 +1,2 @@
--- What callers in C are told.
-pub mod Told
+-- What callers in C are handed.
+pub mod Handed

@@ -1,8 +1,9 @@
 // The stage for callers in C and Rust: one function, by its C name.
 ghost use mathlib.Core.Path.{_≡_};
-ghost use Rattle.emission.specs.Buffers.{buffers};
-ghost use Rattle.raw_offset.specs.Job.{jobOf};
-ghost use Rattle.blidrosk.specs.Told.{told, toldOf};
+ghost use Rattle.sheet.specs.Buffers.{buffers};
+ghost use Rattle.job.specs.Job.{jobOf};
+ghost use Rattle.blidrosk.specs.Handed.{handed, handedOf};
+use segments::Settings;
 
 // Offsets a drawing into the three lent buffers, and returns the number of the answer. `answer` is
 // set to number, place, count of vertices, count of indexes, and 1 where the drawing is closed.
@@ -17,9 +18,10 @@ pub extern "C" fn blidrosk_raw_offset(
     indexes: &mut [u32],
     answer: &mut [u32; 5],
 ) -> u32
-    ensures { λ r. ⌜ told r (now (answer .exit)) (buffers (now (vertices .exit)) (now (flags .exit)) (now (indexes .exit))) ≡ toldOf (jobOf (now (source .entry)) closed offset eps (buffers (now (vertices .entry)) (now (flags .entry)) (now (indexes .entry)))) ⌝ }
+    ensures { λ r. ⌜ handed r (now (answer .exit)) (buffers (now (vertices .exit)) (now (flags .exit)) (now (indexes .exit))) ≡ handedOf (jobOf (now (source .entry)) closed (record { offset = offset; eps = eps }) (buffers (now (vertices .entry)) (now (flags .entry)) (now (indexes .entry)))) ⌝ }
 {
-    let a = raw_offset::create_raw_offset(source, closed, offset, eps, vertices, flags, indexes);
+    let settings = Settings { offset, eps };
+    let a = job::create_raw_offset(source, closed, settings, vertices, flags, indexes);
     let n = a.number();
     let k = a.place();
     let r = a.result();

@@ -6,7 +6,7 @@ use native.Mathlib.Nat.{le-trans, le-of-eq, zero-add, mul-one, mul-comm, mul-ass
 use native.Mathlib.Omega.{arith}
 use lib.Arith.{digits-div}
 use lib.Pow.{pow-pos}
-use Rattle.floats.specs.Steps.{NearRoot}
+use Rattle.floats.specs.InnerSteps.{NearRoot}
 
 -- r * r + d are the digits taken, s those to come, of which there are 2 * k: together, the 108 digits of w * 2 ^ 54 and 54 zeros
 unfoldable pub Taken : (w r d s k : ℕ) → Type 0

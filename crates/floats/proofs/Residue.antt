@@ -3,7 +3,7 @@ use mathlib.Core.Path.{_≡_}
 use Prim.Native.Nat.{ℕ, zero, suc, _+_, _*_, _/_, _%_, _^_, _≤_, _<_}
 use native.Mathlib.Nat.{le-of-lt, lt-of-le-of-lt, mul-le-mul-left, mul-lt-mul-of-pos-right}
 use native.Mathlib.Omega.{arith}
-use Rattle.floats.specs.Steps.{NearRoot}
+use Rattle.floats.specs.InnerSteps.{NearRoot}
 
 -- ---- products
 pub product-lt : {a b m n : ℕ} → a < m → b < n → a * b < m * n

@@ -2,7 +2,8 @@
 -- Assumes nothing.
 use mathlib.Core.Path.{_≡_, refl, sym, ap, _∙_, subst}
 use Prim.Native.Nat.{ℕ, zero, suc, _+_, _-_, _*_, _/_, _^_, _≤_, _<_}
-use native.Mathlib.Nat.{le-trans, le-of-eq, lt-of-lt-of-le, lt-of-le-of-lt, le-antisymm, le-of-suc-le-suc, lt-of-not-le, not-le-of-lt, zero-add, mul-assoc, mul-left-comm, mul-mul-mul-comm, mul-pos, mul-le-mul-right, mul-lt-mul-of-pos-right, mul-div-cancel, le-div-iff-mul-le, div-lt-iff-lt-mul, pow-succ', le-dest, mul-add, one-mul}
+use native.Mathlib.Nat.{le-trans, le-of-eq, lt-of-lt-of-le, lt-of-le-of-lt, le-antisymm, le-of-suc-le-suc, lt-of-not-le, not-le-of-lt, zero-add, mul-assoc, mul-left-comm}
+use native.Mathlib.Nat.{mul-mul-mul-comm, mul-pos, mul-le-mul-right, mul-lt-mul-of-pos-right, mul-div-cancel, le-div-iff-mul-le, div-lt-iff-lt-mul, pow-succ', le-dest, mul-add, one-mul}
 use native.Mathlib.Omega.{arith}
 use mathlib.Core.Bool.{Bool, false, cond}
 use lib.Pow.{pow-add, pow-pos, pow-mono, shl-lt}
@@ -13,7 +14,7 @@ use lib.Ieee.Bits.{ofBits-toBits}
 use lib.Ieee.Exact.{HasValue}
 use lib.Ieee.Nearest.{closest}
 use lib.Ieee.Scale.{grid, round-val}
-use Rattle.floats.specs.Steps.{NearRoot}
+use Rattle.floats.specs.InnerSteps.{NearRoot}
 use Rattle.floats.specs.Root.{rootOf, twiceRoot}
 use Rattle.floats.proofs.Closest.{closest-is, twice-above, twice-below, twice-reaches}
 

@@ -5,7 +5,7 @@ ghost use Prim.Native.Nat.{_+_, _*_, _/_, _%_, _^_, _≤_, _<_};
 ghost use lib.Ieee.{binary64, ofBits};
 ghost use Rattle.floats.specs.Size.{absOf, within, finite};
 ghost use Rattle.floats.specs.Root.{sqrtOf, rootOf};
-ghost use Rattle.floats.specs.Steps.{NearRoot, Tells, Raised, roots};
+ghost use Rattle.floats.specs.InnerSteps.{NearRoot, Tells, Raised, roots};
 
 // x with its sign cleared: −0 gives +0.
 pub fn abs(x: f64) -> f64

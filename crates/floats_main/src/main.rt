@@ -2,6 +2,10 @@
 // is held to the stored output, which was worked out apart from this code.
 ghost use Prim.Native.Nat.{_<_};
 use vectors::Vector2;
+use words::print;
+use words::print_bool;
+use words::print_number;
+use words::print_vector;
 
 // ±0, ±1, 0.5, 2, 49, 1 + 2^-52, 1e-8, ±4, the smallest and largest subnormal, the smallest normal,
 // the largest numbers, the infinities, and two NaNs.
@@ -74,34 +78,12 @@ const WITHIN: [u64; 20] = [
     0x4000_0000_0000_0001,
 ];
 
-fn print(word: &[u8]) {
-    let _written = io::write_all(1, word);
-}
-
-fn print_bits(x: f64) {
-    print(b" ");
-    let _written = io::print_hex(1, bits::bits_of(x), 16);
-}
-
-fn print_bool(x: bool) {
-    if x {
-        print(b" true");
-    } else {
-        print(b" false");
-    }
-}
-
-fn print_vector(v: Vector2) {
-    print_bits(v.x);
-    print_bits(v.y);
-}
-
 // One number: its root, size and finiteness.
 fn one(x: f64) {
     print(b"one");
-    print_bits(x);
-    print_bits(floats::sqrt(x));
-    print_bits(floats::abs(x));
+    print_number(x);
+    print_number(floats::sqrt(x));
+    print_number(floats::abs(x));
     print_bool(floats::is_finite(x));
     print(b"\n");
 }
@@ -109,8 +91,8 @@ fn one(x: f64) {
 // Nearness of two numbers at 1e-8, and at an infinite and a NaN tolerance.
 fn two(a: f64, b: f64) {
     print(b"two");
-    print_bits(a);
-    print_bits(b);
+    print_number(a);
+    print_number(b);
     print_bool(floats::fuzzy_eq_eps(a, b, 1e-8));
     print_bool(floats::fuzzy_eq_eps(a, b, 1.0 / 0.0));
     print_bool(floats::fuzzy_eq_eps(a, b, 0.0 / 0.0));
@@ -123,8 +105,8 @@ fn vector(v: Vector2) {
     print_vector(v);
     print_vector(v.neg());
     print_vector(v.perp());
-    print_bits(v.length_squared());
-    print_bits(v.length());
+    print_number(v.length_squared());
+    print_number(v.length());
     print_vector(v.normalize());
     print_vector(v.unit_perp());
     print(b"\n");
@@ -138,8 +120,8 @@ fn vectors_of(a: Vector2, b: Vector2) {
     print_vector(a.add(b));
     print_vector(a.sub(b));
     print_vector(a.scale(b.x));
-    print_bits(a.dot(b));
-    print_bits(a.perp_dot(b));
+    print_number(a.dot(b));
+    print_number(a.perp_dot(b));
     print_bool(a.fuzzy_eq_eps(b, 0.01));
     print(b"\n");
 }
@@ -168,16 +150,16 @@ fn rows() {
 fn near(x: f64, y: f64, g: f64) {
     let roots = floats::roots_near(x, y, g);
     print(b"near");
-    print_bits(x);
-    print_bits(y);
-    print_bits(g);
-    print_bits(roots.first);
-    print_bits(roots.second);
+    print_number(x);
+    print_number(y);
+    print_number(g);
+    print_number(roots.first);
+    print_number(roots.second);
     print(b"\n");
 }
 
 fn print_root(a: f64, guess: f64) {
-    print_bits(floats::sqrt_by(a, guess));
+    print_number(floats::sqrt_by(a, guess));
 }
 
 // The root of one number by guesses that are good, near and bad.
@@ -185,7 +167,7 @@ fn guessed(a: f64) {
     let guesses = floats::guess(a);
     let g = guesses.first;
     print(b"guessed");
-    print_bits(a);
+    print_number(a);
     print_root(a, g);
     print_root(a, guesses.second);
     print_root(a, guesses.third);

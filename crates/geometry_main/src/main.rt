@@ -1,56 +1,19 @@
 // The public functions of `angles` and `intersections` on stored rows that reach each branch. A row
 // is sixteen words of eight bytes, highest byte first: the number of a function, then the bits of
 // its arguments. The stored output comes from 01's arithmetic in Rust (`oracle`, `samples`).
-ghost use Prim.Native.Nat.{_<_};
-use angles::Four;
-use angles::Pair;
-use angles::Three;
+use angles::FourAngles;
+use angles::ThreeAngles;
+use angles::TwoAngles;
 use intersections::CircleCircleIntr;
 use intersections::LineCircleIntr;
 use intersections::LineLineIntr;
 use vectors::Vector2;
-
-fn word(row: &[u8; 128], k: usize) -> u64
-    requires { ⌜ k < 16 ⌝ }
-{
-    let i = 8 * k;
-    let high = joined(row[i], row[i + 1], row[i + 2], row[i + 3]);
-    let low = joined(row[i + 4], row[i + 5], row[i + 6], row[i + 7]);
-    high << 32 | low
-}
-
-fn joined(a: u8, b: u8, c: u8, d: u8) -> u64 {
-    (a as u64) << 24 | (b as u64) << 16 | (c as u64) << 8 | (d as u64)
-}
-
-fn number(row: &[u8; 128], k: usize) -> f64
-    requires { ⌜ k < 16 ⌝ }
-{
-    bits::number_of(word(row, k))
-}
-
-fn vector(row: &[u8; 128], k: usize) -> Vector2
-    requires { ⌜ k < 15 ⌝ }
-{
-    Vector2 {
-        x: number(row, k),
-        y: number(row, k + 1),
-    }
-}
-
-fn print(text: &[u8]) {
-    let _written = io::write_all(1, text);
-}
-
-fn print_number(x: f64) {
-    print(b" ");
-    let _written = io::print_hex(1, bits::bits_of(x), 16);
-}
-
-fn print_vector(v: Vector2) {
-    print_number(v.x);
-    print_number(v.y);
-}
+use words::number;
+use words::print;
+use words::print_number;
+use words::print_vector;
+use words::vector;
+use words::word;
 
 fn point_from_parametric(row: &[u8; 128]) {
     print(b"point_from_parametric");
@@ -174,33 +137,33 @@ fn intersection_row(function: u64, row: &[u8; 128]) {
     }
 }
 
-fn print_pair(name: &[u8], pair: Pair) {
+fn print_pair(name: &[u8], pair: TwoAngles) {
     print_named(name, pair.first);
     print_number(pair.second);
 }
 
-fn print_three(name: &[u8], three: Three) {
+fn print_three(name: &[u8], three: ThreeAngles) {
     print_named(name, three.first);
     print_number(three.second);
     print_number(three.third);
 }
 
-fn print_four(name: &[u8], four: Four) {
+fn print_four(name: &[u8], four: FourAngles) {
     print_named(name, four.first);
     print_number(four.second);
     print_number(four.third);
     print_number(four.fourth);
 }
 
-fn two_directions(a: Vector2, b: Vector2) -> Pair {
+fn two_directions(a: Vector2, b: Vector2) -> TwoAngles {
     angles::two_directions(a.x, a.y, b.x, b.y)
 }
 
-fn three_directions(a: Vector2, b: Vector2, c: Vector2) -> Three {
+fn three_directions(a: Vector2, b: Vector2, c: Vector2) -> ThreeAngles {
     angles::three_directions(a.x, a.y, b.x, b.y, c.x, c.y)
 }
 
-fn four_directions(a: Vector2, b: Vector2, c: Vector2, d: Vector2) -> Four {
+fn four_directions(a: Vector2, b: Vector2, c: Vector2, d: Vector2) -> FourAngles {
     angles::four_directions(a.x, a.y, b.x, b.y, c.x, c.y, d.x, d.y)
 }
 

@@ -1,7 +1,7 @@
 -- Where two circles meet (01 §3, Circles). Definitions only.
 use lib.Ieee.{Float, lt, le}
 use Rattle.floats.specs.Binary64.{_⊕_, _⊖_, _⊗_, _⊘_, zero, two}
-use Rattle.floats.specs.Choice.{pick, _or_}
+use Rattle.floats.specs.Choice.{when_give_else_, _or_}
 use Rattle.floats.specs.Size.{absOf, within}
 use Rattle.floats.specs.Root.{sqrtOf}
 use Rattle.vectors.specs.Plane.{_⊞_, _⊟_, _⊡_, perp, lengthOf}
@@ -17,7 +17,6 @@ circleCircle r1 c1 r2 c2 ε =
     let M = c1 ⊞ (c2 ⊟ c1) ⊡ (a ⊘ d) in
     let k = r1 ⊗ r1 ⊖ a ⊗ a in
     let side = perp (c2 ⊟ c1) ⊡ (sqrtOf k ⊘ d) in
-    pick (lt d ε) (pick (within r1 r2 ε) Overlapping NoIntersect)
-    (pick (lt (r1 ⊕ r2 ⊕ ε) d or lt (d ⊕ ε) (absOf (r1 ⊖ r2))) NoIntersect
-    (pick (within d (r1 ⊕ r2) ε or (within d (absOf (r1 ⊖ r2)) ε or le k zero)) (TangentIntersect M)
-    (TwoIntersects (M ⊞ side) (M ⊟ side))))
+    when lt d ε give (when within r1 r2 ε give Overlapping else NoIntersect) else
+    when lt (r1 ⊕ r2 ⊕ ε) d or lt (d ⊕ ε) (absOf (r1 ⊖ r2)) give NoIntersect else
+    when within d (r1 ⊕ r2) ε or (within d (absOf (r1 ⊖ r2)) ε or le k zero) give TangentIntersect M else TwoIntersects (M ⊞ side) (M ⊟ side)

@@ -1,7 +1,7 @@
 -- Where a line meets a circle (01 §3, Line and circle). Definitions only.
 use lib.Ieee.{Float, neg, lt, le}
 use Rattle.floats.specs.Binary64.{_⊕_, _⊖_, _⊗_, _⊘_}
-use Rattle.floats.specs.Choice.{pick}
+use Rattle.floats.specs.Choice.{when_give_else_}
 use Rattle.floats.specs.Size.{absOf}
 use Rattle.floats.specs.Root.{sqrtOf}
 use Rattle.vectors.specs.Plane.{_⊟_, dot, cross}
@@ -19,6 +19,5 @@ lineCircle p p′ r centre ε =
     let h = absOf (cross v w) ⊘ l in
     let t = neg (dot w v) ⊘ dot v v in
     let s = sqrtOf (r ⊗ r ⊖ h ⊗ h) ⊘ l in
-    pick (lt (r ⊕ ε) h) NoIntersect
-    (pick (le (absOf (h ⊖ r)) ε) (TangentIntersect t)
-    (TwoIntersects (t ⊖ s) (t ⊕ s)))
+    when lt (r ⊕ ε) h give NoIntersect else
+    when le (absOf (h ⊖ r)) ε give TangentIntersect t else TwoIntersects (t ⊖ s) (t ⊕ s)

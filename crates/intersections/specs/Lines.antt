@@ -2,7 +2,7 @@
 use mathlib.Core.Bool.{Bool}
 use lib.Ieee.{Float, neg, lt, le}
 use Rattle.floats.specs.Binary64.{_⊕_, _⊘_, zero, one}
-use Rattle.floats.specs.Choice.{pick, _and_, _or_}
+use Rattle.floats.specs.Choice.{when_give_else_, _and_, _or_}
 use Rattle.floats.specs.Size.{absOf}
 use Rattle.vectors.specs.Plane.{_⊟_, dot, cross}
 use Rattle.vectors.specs.declared.Vector2.{Vector2}
@@ -25,9 +25,5 @@ lineLine p p′ q q′ ε =
     let s = cross v w ⊘ D in
     let a = dot (q ⊟ p) v ⊘ dot v v in
     let b = dot (q′ ⊟ p) v ⊘ dot v v in
-    pick (le ε (absOf D))
-    (pick (inSpan t ε and inSpan s ε) (TrueIntersect t s) (FalseIntersect t s))
-    (pick
-    (lt (absOf (cross v w)) ε and lt (absOf (cross u w)) ε and ((le a one or le b one) and (le zero a or le zero b)))
-    Overlapping
-    NoIntersect)
+    when le ε (absOf D) give (when inSpan t ε and inSpan s ε give TrueIntersect t s else FalseIntersect t s) else
+    when lt (absOf (cross v w)) ε and lt (absOf (cross u w)) ε and ((le a one or le b one) and (le zero a or le zero b)) give Overlapping else NoIntersect

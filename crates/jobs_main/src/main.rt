@@ -4,8 +4,11 @@
 // indexes are lent; then the source. The jobs at the limit of vertices are made here. The stored
 // output comes from 000 over 01's arithmetic in Rust (`oracle`, `samples`).
 ghost use Prim.Native.Nat.{_≤_};
-use emission::RawOffsetResult;
-use raw_offset::RawOffsetAnswer;
+use job::RawOffsetAnswer;
+use moves::RawOffsetResult;
+use segments::Settings;
+use words::print;
+use words::print_word;
 
 // What stands in each buffer before a job.
 const NUMBER_BEFORE: f64 = -7.25;
@@ -25,23 +28,15 @@ struct Lent {
     indexes: usize,
 }
 
-fn joined(a: u8, b: u8, c: u8, d: u8) -> u64 {
-    (a as u64) << 24 | (b as u64) << 16 | (c as u64) << 8 | (d as u64)
-}
-
 // The next word of the input; what lies past its end is zero.
 fn read_word() -> u64 {
     let mut b = [0u8; 8];
     let _read = io::read_full(0, &mut b);
-    joined(b[0], b[1], b[2], b[3]) << 32 | joined(b[4], b[5], b[6], b[7])
+    words::word(&b, 0)
 }
 
 fn read_number() -> f64 {
     bits::number_of(read_word())
-}
-
-fn print(text: &[u8]) {
-    let _written = io::write_all(1, text);
 }
 
 fn print_count(n: u64) {
@@ -49,14 +44,9 @@ fn print_count(n: u64) {
     let _written = io::print_decimal(1, n);
 }
 
-fn print_bits(word: u64) {
-    print(b" ");
-    let _written = io::print_hex(1, word, 16);
-}
-
 fn print_sum(sum: u64) {
     print(b" sum");
-    print_bits(sum);
+    print_word(sum);
 }
 
 fn least(a: usize, b: usize) -> usize
@@ -77,7 +67,7 @@ fn print_numbers(numbers: &[f64], shown: usize) {
     for i in 0..numbers.len() {
         let word = bits::bits_of(numbers[i]);
         if i < shown {
-            print_bits(word);
+            print_word(word);
         }
         sum = mixed(sum, word);
     }
@@ -160,8 +150,7 @@ fn job(
     lent: Lent,
     source: &[f64],
     closed: bool,
-    offset: f64,
-    eps: f64,
+    settings: Settings,
     vertices: &mut [f64],
     flags: &mut [u8],
     indexes: &mut [u32],
@@ -170,11 +159,10 @@ fn job(
     let numbers_lent = least(lent.numbers, vertices.len());
     let flags_lent = least(lent.flags, flags.len());
     let indexes_lent = least(lent.indexes, indexes.len());
-    let answer = raw_offset::create_raw_offset(
+    let answer = job::create_raw_offset(
         &source[..count],
         closed,
-        offset,
-        eps,
+        settings,
         &mut vertices[..numbers_lent],
         &mut flags[..flags_lent],
         &mut indexes[..indexes_lent],
@@ -197,8 +185,10 @@ fn row() {
     let mut indexes = [INDEX_BEFORE; 88];
     let count = read_word() as usize;
     let closed = read_word() == 1;
-    let offset = read_number();
-    let eps = read_number();
+    let settings = Settings {
+        offset: read_number(),
+        eps: read_number(),
+    };
     let lent = Lent {
         source: count,
         numbers: read_word() as usize,
@@ -210,8 +200,7 @@ fn row() {
         lent,
         &source,
         closed,
-        offset,
-        eps,
+        settings,
         &mut vertices,
         &mut flags,
         &mut indexes,
@@ -248,8 +237,10 @@ fn long(numbers: usize, closed: bool) {
         lent,
         &source,
         closed,
-        0.125,
-        1e-5,
+        Settings {
+            offset: 0.125,
+            eps: 1e-5,
+        },
         &mut vertices,
         &mut flags,
         &mut indexes,

@@ -9,7 +9,7 @@ use lib.Dec.{T, T-not, lit<}
 use lib.Ieee.{Float, nan, inf, fin, binary64, up, down, round, neg, add, sub, div, lt, le, fits, isNan, ofBits}
 use lib.Ieee.Fits.{add-fits, down-pos}
 use lib.Ieee.Positive.{above-of-le}
-use Rattle.floats.specs.Choice.{pick}
+use Rattle.floats.specs.Choice.{when_give_else_}
 use Rattle.floats.specs.Binary64.{_⊕_, _⊖_, _⊗_, _⊘_, zero, one, two}
 use Rattle.floats.specs.Size.{absOf}
 use Rattle.floats.specs.Root.{sqrtOf}
@@ -19,23 +19,24 @@ use Rattle.floats.proofs.RootOrder.{root-clear, root-of-double}
 use Rattle.floats.proofs.Signs.{abs-neg, abs-clear, abs-of-clear}
 use Rattle.vectors.specs.declared.Vector2.{Vector2}
 use Rattle.vectors.specs.Plane.{_⊟_, dot, cross, normalized}
-use Rattle.joins.specs.Connector.{clampCos, clampSin, bulgeSize, connectorBulge, ConnectorBound}
+use Rattle.joins.specs.Connector.{clampCos, clampSin, bulgeSize, connectorBulge}
+use Rattle.joins.specs.InnerSteps.{ConnectorBound}
 
 -- ---- what the clamps give
 cos-in : (c : Float) → T (number c) → T (le (neg one) (clampCos c)) × T (le (clampCos c) one)
-unfolding clampCos pick neg ofBits
+unfolding clampCos when_give_else_ neg ofBits
 cos-in c p = go (lt c (neg one)) (lt one c) (nlt→le c (neg one) p tt) (nlt→le one c tt p)
   where
-    go : (a b : Bool) → (T (not a) → T (le (neg one) c)) → (T (not b) → T (le c one)) → T (le (neg one) (pick a (neg one) (pick b one c))) × T (le (pick a (neg one) (pick b one c)) one)
+    go : (a b : Bool) → (T (not a) → T (le (neg one) c)) → (T (not b) → T (le c one)) → T (le (neg one) (when a give neg one else when b give one else c)) × T (le (when a give neg one else when b give one else c) one)
     go true b h k = unfold le in (tt, tt)
     go false true h k = unfold le in (tt, tt)
     go false false h k = (h tt, k tt)
 
 sin-in : (s : Float) → T (clear s) → T (nonneg (clampSin s)) × T (le (clampSin s) one)
-unfolding clampSin pick ofBits
+unfolding clampSin when_give_else_ ofBits
 sin-in s p = go (lt one s) (nlt→le one s tt (clear→number s p))
   where
-    go : (b : Bool) → (T (not b) → T (le s one)) → T (nonneg (pick b one s)) × T (le (pick b one s) one)
+    go : (b : Bool) → (T (not b) → T (le s one)) → T (nonneg (when b give one else s)) × T (le (when b give one else s) one)
     go true k = (tt, unfold le in tt)
     go false k = (nonneg-under s one p tt (k tt), k tt)
 
@@ -121,10 +122,10 @@ half-in c s i h k p =
     div-unit binary64 u (s ⊕ r) q (above-of-le one (s ⊕ r) tt (le-through one u (s ⊕ r) (n .1) g)) g
 
 size-in : (c s : Float) → T (le (neg one) c) → T (le c one) → T (nonneg s) → T (le s one) → Unit01 (bulgeSize c s)
-unfolding bulgeSize pick
+unfolding bulgeSize when_give_else_
 size-in c s h k p l = go (le zero c) _ _ (λ (t : T (le zero c)). quarter-in c s t k p l) (λ (t : T (not (le zero c))). half-in c s (le-number-l c one k) t h p)
   where
-    go : (b : Bool) (x y : Float) → (T b → Unit01 x) → (T (not b) → Unit01 y) → Unit01 (pick b x y)
+    go : (b : Bool) (x y : Float) → (T b → Unit01 x) → (T (not b) → Unit01 y) → Unit01 (when b give x else y)
     go true x y u v = u tt
     go false x y u v = v tt
 
@@ -135,13 +136,13 @@ div-nan nan = refl
 div-nan (inf s) = refl
 div-nan (fin s m e) = refl
 
-both-nan : (b : Bool) (x y : Float) → (T b → x ≡ nan) → y ≡ nan → pick b x y ≡ nan
-unfolding pick
+both-nan : (b : Bool) (x y : Float) → (T b → x ≡ nan) → y ≡ nan → when b give x else y ≡ nan
+unfolding when_give_else_
 both-nan true x y p q = p tt
 both-nan false x y p q = q
 
 clamped-nan : clampCos nan ≡ nan
-unfolding clampCos pick lt ofBits
+unfolding clampCos when_give_else_ lt ofBits
 clamped-nan = refl
 
 nan-cos : (s : Float) → bulgeSize nan s ≡ nan
@@ -152,7 +153,7 @@ nan-cos s = both-nan (le zero nan) _ _ (λ (t : T (le zero nan)). absurd (le-num
     over r = unfold sub div ofBits in refl
 
 clamped-nan-size : clampSin (absOf nan) ≡ nan
-unfolding clampSin absOf pick lt ofBits
+unfolding clampSin absOf when_give_else_ lt ofBits
 clamped-nan-size = refl
 
 nan-sin : (c : Float) → bulgeSize c nan ≡ nan
@@ -193,18 +194,18 @@ sized (fin s m e) (inf t) = numbers-in (fin s m e) (inf t) tt tt
 sized (fin s m e) (fin t n d) = numbers-in (fin s m e) (fin t n d) tt tt
 
 -- ---- the sign: the size itself or its negative
-turned-size : (b : Bool) (r : Float) → T (clear r) → absOf (pick b (neg r) r) ≡ r
-unfolding pick
+turned-size : (b : Bool) (r : Float) → T (clear r) → absOf (when b give neg r else r) ≡ r
+unfolding when_give_else_
 turned-size true r p = abs-neg r ∙ abs-of-clear r p
 turned-size false r p = abs-of-clear r p
 
-turned-nan : (b : Bool) (r : Float) → r ≡ nan → pick b (neg r) r ≡ nan
-unfolding pick
+turned-nan : (b : Bool) (r : Float) → r ≡ nan → when b give neg r else r ≡ nan
+unfolding when_give_else_
 turned-nan true r e = ap neg e ∙ (unfold neg in refl)
 turned-nan false r e = e
 
-at-most-one : (b : Bool) (r : Float) → Sized r → isNan (pick b (neg r) r) ≡ false → T (le (absOf (pick b (neg r) r)) one)
-at-most-one b r (lost e) n = absurd (subst (λ (z : Float). T (number z)) (turned-nan b r e) (number-of (pick b (neg r) r) n))
+at-most-one : (b : Bool) (r : Float) → Sized r → isNan (when b give neg r else r) ≡ false → T (le (absOf (when b give neg r else r)) one)
+at-most-one b r (lost e) n = absurd (subst (λ (z : Float). T (number z)) (turned-nan b r e) (number-of (when b give neg r else r) n))
 at-most-one b r (within p l) n = subst (λ (z : Float). T (le z one)) (sym (turned-size b r p)) l
 
 negative-not-above : (r : Float) → T (clear r) → T (lt zero (neg r)) → ⊥
@@ -224,18 +225,18 @@ nan-below : (r : Float) → r ≡ nan → T (lt r zero) → ⊥
 unfolding lt
 nan-below r e h = subst (λ (z : Float). T (lt z zero)) e h
 
-not-above : (b : Bool) (r : Float) → T b → Sized r → T (lt zero (pick b (neg r) r)) → ⊥
-not-above b r t (lost e) h = nan-above (pick b (neg r) r) (turned-nan b r e) h
-not-above true r t (within p l) h = negative-not-above r p (unfold pick in h)
+not-above : (b : Bool) (r : Float) → T b → Sized r → T (lt zero (when b give neg r else r)) → ⊥
+not-above b r t (lost e) h = nan-above (when b give neg r else r) (turned-nan b r e) h
+not-above true r t (within p l) h = negative-not-above r p (unfold when_give_else_ in h)
 not-above false r t (within p l) h = t
 
-not-below : (b : Bool) (r : Float) → (T b → ⊥) → Sized r → T (lt (pick b (neg r) r) zero) → ⊥
-not-below b r t (lost e) h = nan-below (pick b (neg r) r) (turned-nan b r e) h
+not-below : (b : Bool) (r : Float) → (T b → ⊥) → Sized r → T (lt (when b give neg r else r) zero) → ⊥
+not-below b r t (lost e) h = nan-below (when b give neg r else r) (turned-nan b r e) h
 not-below true r t (within p l) h = t tt
-not-below false r t (within p l) h = lt→nle r zero (unfold pick in h) (zero-least r p)
+not-below false r t (within p l) h = lt→nle r zero (unfold when_give_else_ in h) (zero-least r p)
 
 -- ---- the theorem
-by-offset : (offset r : Float) → Sized r → ConnectorBound offset (pick (le zero offset) (neg r) r)
+by-offset : (offset r : Float) → Sized r → ConnectorBound offset (when le zero offset give neg r else r)
 by-offset offset r z = record {
   small = at-most-one (le zero offset) r z;
   notBothAbove = λ (o : T (lt zero offset)). not-above (le zero offset) r (lt→le zero offset o) z;

@@ -1,15 +1,16 @@
--- Every join is of one of six makes, one a class (`made`), whatever comes in. So its connector's bulge is at most 1 in size where it is a number and never of the
--- offset's sign (`join-bound`), it is zero but in the two round classes (`round-only`), and a coincident or trimmed boundary has one point (`equal-ends`).
--- A collapsed side never meets (`collapsed-never-meets`). Assumes nothing.
-use mathlib.Core.Path.{_≡_, refl}
-use mathlib.Core.Bool.{Bool, true, false}
-use lib.Dec.{T}
+-- Every join is of one of five makes (`made`), whatever comes in. So its connector's bulge is at most 1 in size where it is a number and never of the
+-- offset's sign (`join-bound`), it is zero but in the two round classes (`round-only`), and a coincident or trimmed boundary has one point (`equal-ends`),
+-- as has each whose ends are within ε (`near-one-point`). A collapsed side never meets (`collapsed-never-meets`). Assumes nothing.
+use mathlib.Core.Path.{_≡_, refl, sym, _∙_}
+use mathlib.Core.Bool.{Bool, true, false, false≢true}
 use lib.Ieee.{Float, ofBits, lt, le}
 use Rattle.floats.specs.Binary64.{zero}
-use Rattle.floats.specs.Choice.{_or_}
+use Rattle.floats.specs.Choice.{when_give_else_, _or_}
 use Rattle.floats.specs.Size.{absOf}
+use Rattle.vectors.specs.Plane.{near}
 use Rattle.vectors.specs.declared.Vector2.{Vector2}
 use Rattle.segments.specs.declared.RawOffsetSeg.{RawOffsetSeg}
+use Rattle.segments.specs.declared.Settings.{Settings}
 use Rattle.segments.specs.declared.RawOffsetSeg.the-variants.{Line, Arc, Collapsed}
 use Rattle.segments.specs.Segment.{startOf, endOf, isCollapsed}
 use Rattle.meetings.specs.declared.Met.{Met}
@@ -18,11 +19,14 @@ use Rattle.meetings.specs.Meetings.{lineLineMeeting, lineArcMeeting, arcLineMee
 use Rattle.joins.specs.declared.JoinClass.{JoinClass}
 use Rattle.joins.specs.declared.JoinClass.the-variants as Class
 use Rattle.joins.specs.declared.JoinCause.{JoinCause}
-use Rattle.joins.specs.declared.JoinCause.the-variants.{Coincident, ZeroTangent, SameDirection, Reversal, Outer, Inner}
+use Rattle.joins.specs.declared.JoinCause.the-variants as Cause
+use Rattle.joins.specs.declared.JoinTurn.{JoinTurn}
+use Rattle.joins.specs.declared.JoinTurn.the-variants.{Coincident, ZeroTangent, SameDirection, Reversal, Outer, Inner}
 use Rattle.joins.specs.declared.JoinBoundary.{JoinBoundary}
 use Rattle.joins.specs.Boundary.{straight, trimmed}
-use Rattle.joins.specs.Connector.{ConnectorBound}
-use Rattle.joins.specs.Join.{rounded, trimmedBy, innerJoin, causeOf, joinBy, joinOf}
+use Rattle.joins.specs.InnerSteps.{classOf, isGap}
+use Rattle.joins.specs.InnerSteps.{ConnectorBound}
+use Rattle.joins.specs.Join.{rounded, trimmedBy, innerJoin, turnOf, joinBy, joinOf}
 use Rattle.joins.proofs.Bound.{connector-bound}
 
 -- the two classes whose connector is an arc
@@ -43,88 +47,113 @@ isOnePoint Class.ReversalRound = false
 isOnePoint Class.InvalidInnerGap = false
 isOnePoint Class.InvalidDegenerateGap = false
 
--- ---- the six makes
-pub data Made (shared : Vector2) (offset : Float) : JoinBoundary → Type 0 where
-  coincident : (a : Vector2) → Made shared offset (straight Class.Coincident a a)
-  cut : (p : Vector2) (s t : Float) → Made shared offset (trimmed p s t)
-  outer : (a b : Vector2) → Made shared offset (rounded Class.OuterRound a b shared offset)
-  reversal : (a b : Vector2) → Made shared offset (rounded Class.ReversalRound a b shared offset)
-  innerGap : (a b : Vector2) → Made shared offset (straight Class.InvalidInnerGap a b)
-  degenerateGap : (a b : Vector2) → Made shared offset (straight Class.InvalidDegenerateGap a b)
+-- ---- the five makes, of a segment that ends at a and one that starts at b
+pub data Made (a b shared : Vector2) (offset : Float) : JoinBoundary → Type 0 where
+  coincident : Made a b shared offset (straight Cause.Coincident a a)
+  cut : (p : Vector2) (s t : Float) → Made a b shared offset (trimmed p s t)
+  outer : Made a b shared offset (rounded Cause.OuterTurn a b shared offset)
+  reversal : Made a b shared offset (rounded Cause.Reversal a b shared offset)
+  gap : (c : JoinCause) → isGap (classOf c) ≡ true → Made a b shared offset (straight c a b)
 
-met-made : (met : Met) (a b shared : Vector2) (offset : Float) → Made shared offset (trimmedBy met a b)
+met-made : (met : Met) (a b shared : Vector2) (offset : Float) → Made a b shared offset (trimmedBy met a b)
 met-made (At m) a b shared offset = cut (m .point) (m .«current_param») (m .«next_param»)
-met-made NoMeeting a b shared offset = innerGap a b
-met-made CandidatesMissed a b shared offset = innerGap a b
+met-made NoMeeting a b shared offset = gap Cause.NoMeeting refl
+met-made CandidatesMissed a b shared offset = gap Cause.CandidatesMissed refl
 
-inner-made : (current next : RawOffsetSeg) (shared : Vector2) (offset ε : Float) → Made shared offset (innerJoin current next shared ε)
-inner-made (Line a) (Line b) shared offset ε = met-made (lineLineMeeting a b ε) (a .end) (b .start) shared offset
-inner-made (Line a) (Arc b) shared offset ε = met-made (lineArcMeeting a b shared ε) (a .end) (b .start) shared offset
-inner-made (Line a) (Collapsed b) shared offset ε = innerGap (a .end) (b .start)
-inner-made (Arc a) (Line b) shared offset ε = met-made (arcLineMeeting a b shared ε) (a .end) (b .start) shared offset
-inner-made (Arc a) (Arc b) shared offset ε = met-made (arcArcMeeting a b shared ε) (a .end) (b .start) shared offset
-inner-made (Arc a) (Collapsed b) shared offset ε = innerGap (a .end) (b .start)
-inner-made (Collapsed a) next shared offset ε = innerGap (a .end) (startOf next)
+inner-made : (current next : RawOffsetSeg) (shared : Vector2) (σ : Settings) → Made (endOf current) (startOf next) shared (σ .offset) (innerJoin current next shared (σ .eps))
+inner-made (Line a) (Line b) shared σ = met-made (lineLineMeeting a b (σ .eps)) (a .end) (b .start) shared (σ .offset)
+inner-made (Line a) (Arc b) shared σ = met-made (lineArcMeeting a b shared (σ .eps)) (a .end) (b .start) shared (σ .offset)
+inner-made (Line a) (Collapsed b) shared σ = gap Cause.CollapsedSide refl
+inner-made (Arc a) (Line b) shared σ = met-made (arcLineMeeting a b shared (σ .eps)) (a .end) (b .start) shared (σ .offset)
+inner-made (Arc a) (Arc b) shared σ = met-made (arcArcMeeting a b shared (σ .eps)) (a .end) (b .start) shared (σ .offset)
+inner-made (Arc a) (Collapsed b) shared σ = gap Cause.CollapsedSide refl
+inner-made (Collapsed a) next shared σ = gap Cause.CollapsedSide refl
 
-by-cause : (cause : JoinCause) (current next : RawOffsetSeg) (shared : Vector2) (offset ε : Float) → Made shared offset (joinBy cause current next shared offset ε)
-by-cause Coincident current next shared offset ε = coincident (endOf current)
-by-cause ZeroTangent current next shared offset ε = degenerateGap (endOf current) (startOf next)
-by-cause SameDirection current next shared offset ε = degenerateGap (endOf current) (startOf next)
-by-cause Reversal current next shared offset ε = reversal (endOf current) (startOf next)
-by-cause Outer current next shared offset ε = outer (endOf current) (startOf next)
-by-cause Inner current next shared offset ε = inner-made current next shared offset ε
+by-turn : (turn : JoinTurn) (current next : RawOffsetSeg) (shared : Vector2) (σ : Settings) → Made (endOf current) (startOf next) shared (σ .offset) (joinBy turn current next shared σ)
+by-turn Coincident current next shared σ = coincident
+by-turn ZeroTangent current next shared σ = gap Cause.ZeroTangent refl
+by-turn SameDirection current next shared σ = gap Cause.SameDirection refl
+by-turn Reversal current next shared σ = reversal
+by-turn Outer current next shared σ = outer
+by-turn Inner current next shared σ = inner-made current next shared σ
 
-pub made : (current next : RawOffsetSeg) (shared : Vector2) (offset ε : Float) → Made shared offset (joinOf current next shared offset ε)
+pub made : (current next : RawOffsetSeg) (shared : Vector2) (σ : Settings) → Made (endOf current) (startOf next) shared (σ .offset) (joinOf current next shared σ)
 unfolding joinOf
-made current next shared offset ε = by-cause (causeOf current next offset ε) current next shared offset ε
+made current next shared σ = by-turn (turnOf current next σ) current next shared σ
 
 -- ---- the connector's bulge
 zero-bound : (offset : Float) → ConnectorBound offset zero
 unfolding absOf lt le ofBits
 zero-bound offset = record { small = λ n. tt; notBothAbove = λ o h. h; notBothBelow = λ o h. h }
 
-made-bound : (shared : Vector2) (offset : Float) (b : JoinBoundary) → Made shared offset b → ConnectorBound offset (b .«connector_bulge»)
+made-bound : {a b shared : Vector2} {offset : Float} {j : JoinBoundary} → Made a b shared offset j → ConnectorBound offset (j .«connector_bulge»)
 unfolding rounded
-made-bound shared offset _ (coincident a) = zero-bound offset
-made-bound shared offset _ (cut p s t) = zero-bound offset
-made-bound shared offset _ (outer a b) = connector-bound offset a b shared
-made-bound shared offset _ (reversal a b) = connector-bound offset a b shared
-made-bound shared offset _ (innerGap a b) = zero-bound offset
-made-bound shared offset _ (degenerateGap a b) = zero-bound offset
+made-bound coincident = zero-bound _
+made-bound (cut p s t) = zero-bound _
+made-bound outer = connector-bound _ _ _ _
+made-bound reversal = connector-bound _ _ _ _
+made-bound (gap c g) = zero-bound _
 
-pub join-bound : (current next : RawOffsetSeg) (shared : Vector2) (offset ε : Float) → ConnectorBound offset (joinOf current next shared offset ε .«connector_bulge»)
-join-bound current next shared offset ε = made-bound shared offset _ (made current next shared offset ε)
+pub join-bound : (current next : RawOffsetSeg) (shared : Vector2) (σ : Settings) → ConnectorBound (σ .offset) (joinOf current next shared σ .«connector_bulge»)
+join-bound current next shared σ = made-bound (made current next shared σ)
 
-made-straight : (shared : Vector2) (offset : Float) (b : JoinBoundary) → Made shared offset b → isRound (b .class) ≡ false → b .«connector_bulge» ≡ zero
+made-straight : {a b shared : Vector2} {offset : Float} {j : JoinBoundary} → Made a b shared offset j → isRound (classOf (j .cause)) ≡ false → j .«connector_bulge» ≡ zero
 unfolding rounded
-made-straight shared offset _ (coincident a) n = refl
-made-straight shared offset _ (cut p s t) n = refl
-made-straight shared offset _ (outer a b) n = let z : true ≡ false = n in cc
-made-straight shared offset _ (reversal a b) n = let z : true ≡ false = n in cc
-made-straight shared offset _ (innerGap a b) n = refl
-made-straight shared offset _ (degenerateGap a b) n = refl
+made-straight coincident n = refl
+made-straight (cut p s t) n = refl
+made-straight outer n = let z : true ≡ false = n in cc
+made-straight reversal n = let z : true ≡ false = n in cc
+made-straight (gap c g) n = refl
 
-pub round-only : (current next : RawOffsetSeg) (shared : Vector2) (offset ε : Float) →
-    isRound (joinOf current next shared offset ε .class) ≡ false → joinOf current next shared offset ε .«connector_bulge» ≡ zero
-round-only current next shared offset ε = made-straight shared offset _ (made current next shared offset ε)
+pub round-only : (current next : RawOffsetSeg) (shared : Vector2) (σ : Settings) →
+    isRound (classOf (joinOf current next shared σ .cause)) ≡ false → joinOf current next shared σ .«connector_bulge» ≡ zero
+round-only current next shared σ = made-straight (made current next shared σ)
 
 -- ---- one point
-made-ends : (shared : Vector2) (offset : Float) (b : JoinBoundary) → Made shared offset b → isOnePoint (b .class) ≡ true → b .«current_end» ≡ b .«next_start»
-unfolding rounded
-made-ends shared offset _ (coincident a) h = refl
-made-ends shared offset _ (cut p s t) h = refl
-made-ends shared offset _ (outer a b) h = let z : false ≡ true = h in cc
-made-ends shared offset _ (reversal a b) h = let z : false ≡ true = h in cc
-made-ends shared offset _ (innerGap a b) h = let z : false ≡ true = h in cc
-made-ends shared offset _ (degenerateGap a b) h = let z : false ≡ true = h in cc
+gap-apart : (c : JoinClass) → isGap c ≡ true → isOnePoint c ≡ true → ⊥
+gap-apart Class.Coincident g h = false≢true g
+gap-apart Class.Trimmed g h = false≢true g
+gap-apart Class.OuterRound g h = false≢true g
+gap-apart Class.ReversalRound g h = false≢true g
+gap-apart Class.InvalidInnerGap g h = false≢true h
+gap-apart Class.InvalidDegenerateGap g h = false≢true h
 
-pub equal-ends : (current next : RawOffsetSeg) (shared : Vector2) (offset ε : Float) →
-    isOnePoint (joinOf current next shared offset ε .class) ≡ true → joinOf current next shared offset ε .«current_end» ≡ joinOf current next shared offset ε .«next_start»
-equal-ends current next shared offset ε = made-ends shared offset _ (made current next shared offset ε)
+made-ends : {a b shared : Vector2} {offset : Float} {j : JoinBoundary} → Made a b shared offset j → isOnePoint (classOf (j .cause)) ≡ true → j .«current_end» ≡ j .«next_start»
+unfolding rounded
+made-ends coincident h = refl
+made-ends (cut p s t) h = refl
+made-ends outer h = let z : false ≡ true = h in cc
+made-ends reversal h = let z : false ≡ true = h in cc
+made-ends (gap c g) h = absurd (gap-apart (classOf c) g h)
+
+pub equal-ends : (current next : RawOffsetSeg) (shared : Vector2) (σ : Settings) →
+    isOnePoint (classOf (joinOf current next shared σ .cause)) ≡ true → joinOf current next shared σ .«current_end» ≡ joinOf current next shared σ .«next_start»
+equal-ends current next shared σ = made-ends (made current next shared σ)
+
+-- where the two segments are apart, so are the ends of a boundary that has not one point
+made-near : {a b shared : Vector2} {offset : Float} {j : JoinBoundary} (ε : Float) → near a b ε ≡ false → Made a b shared offset j
+    → near (j .«current_end») (j .«next_start») ε ≡ true → j .«current_end» ≡ j .«next_start»
+unfolding rounded
+made-near ε n coincident h = refl
+made-near ε n (cut p s t) h = refl
+made-near ε n outer h = absurd (false≢true (sym n ∙ h))
+made-near ε n reversal h = absurd (false≢true (sym n ∙ h))
+made-near ε n (gap c g) h = absurd (false≢true (sym n ∙ h))
+
+pub near-one-point : (current next : RawOffsetSeg) (shared : Vector2) (σ : Settings) →
+    near (joinOf current next shared σ .«current_end») (joinOf current next shared σ .«next_start») (σ .eps) ≡ true
+    → joinOf current next shared σ .«current_end» ≡ joinOf current next shared σ .«next_start»
+near-one-point current next shared σ = by (near (endOf current) (startOf next) (σ .eps)) refl
+  where
+    by : (t : Bool) → near (endOf current) (startOf next) (σ .eps) ≡ t
+        → near (joinOf current next shared σ .«current_end») (joinOf current next shared σ .«next_start») (σ .eps) ≡ true
+        → joinOf current next shared σ .«current_end» ≡ joinOf current next shared σ .«next_start»
+    by true n h = unfold joinOf turnOf when_give_else_ in rw n
+    by false n h = made-near (σ .eps) n (made current next shared σ) h
 
 -- ---- a collapsed side: 000's unreachable arm
 pub collapsed-never-meets : (current next : RawOffsetSeg) (shared : Vector2) (ε : Float) →
-    isCollapsed current or isCollapsed next ≡ true → innerJoin current next shared ε ≡ straight Class.InvalidInnerGap (endOf current) (startOf next)
+    isCollapsed current or isCollapsed next ≡ true → innerJoin current next shared ε ≡ straight Cause.CollapsedSide (endOf current) (startOf next)
 unfolding _or_
 collapsed-never-meets (Line a) (Line b) shared ε h = let z : false ≡ true = h in cc
 collapsed-never-meets (Line a) (Arc b) shared ε h = let z : false ≡ true = h in cc

@@ -1,31 +1,32 @@
 -- What a join has seen of a start angle changes nothing: the arc with it is the rules' arc, and only an inner join looks at it. Assumes nothing.
 use mathlib.Core.Path.{_≡_, refl, ap, _∙_}
 use lib.Ieee.{Float, ofBits, div, eq}
-use Rattle.floats.specs.Choice.{pick}
+use Rattle.floats.specs.Choice.{when_give_else_}
 use Rattle.vectors.specs.declared.Vector2.{Vector2}
 use Rattle.segments.specs.declared.RawOffsetArc.{RawOffsetArc}
+use Rattle.segments.specs.declared.Settings.{Settings}
 use Rattle.segments.specs.declared.RawOffsetSeg.{RawOffsetSeg}
 use Rattle.segments.specs.declared.RawOffsetSeg.the-variants as Full
 use Rattle.segments.specs.declared.CarriedArc.{CarriedArc}
 use Rattle.segments.specs.declared.CarriedSeg.{CarriedSeg}
 use Rattle.segments.specs.declared.CarriedSeg.the-variants.{Line, Arc, Collapsed}
 use Rattle.segments.specs.Segment.{endOf, endTangent, tangentAt}
-use Rattle.segments.specs.Steps.{fullArc, fullSeg}
+use Rattle.segments.specs.InnerSteps.{fullArc, fullSeg}
 use Rattle.meetings.specs.declared.Met.{Met}
 use Rattle.meetings.specs.declared.SeenArc.{SeenArc}
 use Rattle.meetings.specs.declared.SeenMet.{SeenMet}
-use Rattle.meetings.specs.Steps.{notSeen, startAngle, angled, Shows}
-use Rattle.joins.specs.declared.JoinCause.{JoinCause}
-use Rattle.joins.specs.declared.JoinCause.the-variants.{Coincident, ZeroTangent, SameDirection, Reversal, Outer, Inner}
+use Rattle.meetings.specs.InnerSteps.{notSeen, startAngle, angled, Shows}
+use Rattle.joins.specs.declared.JoinTurn.{JoinTurn}
+use Rattle.joins.specs.declared.JoinTurn.the-variants.{Coincident, ZeroTangent, SameDirection, Reversal, Outer, Inner}
 use Rattle.joins.specs.declared.JoinBoundary.{JoinBoundary}
 use Rattle.joins.specs.declared.Joined.{Joined}
-use Rattle.joins.specs.Join.{causeOf, trimmedBy, innerJoin, joinOf}
-use Rattle.joins.specs.Steps.{settledBy, orElseJoin, seenArc, seenSeg, joined, Joins}
+use Rattle.joins.specs.Join.{turnOf, trimmedBy, innerJoin, joinOf}
+use Rattle.joins.specs.InnerSteps.{settledBy, orElseJoin, seenArc, seenSeg, joined, Joins}
 use Rattle.joins.proofs.Settling.{settled-or-inner}
 
 -- ---- what is not known is worked out
 arc-unseen : (a : CarriedArc) → angled (seenArc notSeen a) ≡ fullArc a
-unfolding startAngle notSeen pick ofBits div eq
+unfolding startAngle notSeen when_give_else_ ofBits div eq
 arc-unseen a = refl
 
 arc-seen : (a : CarriedArc) (s : Float) → startAngle (seenArc s a) ≡ startAngle (seenArc notSeen a) → angled (seenArc s a) ≡ fullArc a
@@ -60,19 +61,19 @@ module _ (s : Float) where
   end-tangent-seen (Arc a) = refl
   end-tangent-seen (Collapsed a) = refl
 
-  cause-seen : (g : CarriedSeg) (h : RawOffsetSeg) (offset ε : Float) → causeOf (seenSeg s g) h offset ε ≡ causeOf (fullSeg g) h offset ε
-  unfolding causeOf
-  cause-seen g h offset ε = rw (end-seen g, end-tangent-seen g)
+  turn-seen : (g : CarriedSeg) (h : RawOffsetSeg) (σ : Settings) → turnOf (seenSeg s g) h σ ≡ turnOf (fullSeg g) h σ
+  unfolding turnOf
+  turn-seen g h σ = rw (end-seen g, end-tangent-seen g)
 
-  settled-seen : (c : JoinCause) (g : CarriedSeg) (h : RawOffsetSeg) (shared : Vector2) (offset ε : Float) → settledBy c (seenSeg s g) h shared offset ε ≡ settledBy c (fullSeg g) h shared offset ε
-  settled-seen Coincident g h shared offset ε = rw (end-seen g)
-  settled-seen ZeroTangent g h shared offset ε = rw (end-seen g)
-  settled-seen SameDirection g h shared offset ε = rw (end-seen g)
-  settled-seen Reversal g h shared offset ε = rw (end-seen g)
-  settled-seen Outer g h shared offset ε = rw (end-seen g)
-  settled-seen Inner g h shared offset ε = refl
+  settled-seen : (c : JoinTurn) (g : CarriedSeg) (h : RawOffsetSeg) (shared : Vector2) (σ : Settings) → settledBy c (seenSeg s g) h shared σ ≡ settledBy c (fullSeg g) h shared σ
+  settled-seen Coincident g h shared σ = rw (end-seen g)
+  settled-seen ZeroTangent g h shared σ = rw (end-seen g)
+  settled-seen SameDirection g h shared σ = rw (end-seen g)
+  settled-seen Reversal g h shared σ = rw (end-seen g)
+  settled-seen Outer g h shared σ = rw (end-seen g)
+  settled-seen Inner g h shared σ = refl
 
-  pub join-seen : (g : CarriedSeg) (h : RawOffsetSeg) (shared : Vector2) (offset ε : Float)
-      → joinOf (seenSeg s g) h shared offset ε ≡ orElseJoin (settledBy (causeOf (fullSeg g) h offset ε) (fullSeg g) h shared offset ε) (innerJoin (seenSeg s g) h shared ε)
+  pub join-seen : (g : CarriedSeg) (h : RawOffsetSeg) (shared : Vector2) (σ : Settings)
+      → joinOf (seenSeg s g) h shared σ ≡ orElseJoin (settledBy (turnOf (fullSeg g) h σ) (fullSeg g) h shared σ) (innerJoin (seenSeg s g) h shared (σ .eps))
   unfolding joinOf
-  join-seen g h shared offset ε = settled-or-inner (causeOf (seenSeg s g) h offset ε) (seenSeg s g) h shared offset ε ∙ rw (cause-seen g h offset ε, settled-seen (causeOf (fullSeg g) h offset ε) g h shared offset ε)
+  join-seen g h shared σ = settled-or-inner (turnOf (seenSeg s g) h σ) (seenSeg s g) h shared σ ∙ rw (turn-seen g h σ, settled-seen (turnOf (fullSeg g) h σ) g h shared σ)

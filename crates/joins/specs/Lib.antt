@@ -1,4 +1,4 @@
 pub mod Boundary
 pub mod Connector
 pub mod Join
-pub mod Steps
+pub mod InnerSteps

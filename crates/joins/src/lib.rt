@@ -3,18 +3,20 @@ ghost use mathlib.Core.Path.{_≡_};
 ghost use lib.Ieee.{le};
 ghost use Rattle.floats.specs.Choice.{_or_};
 ghost use Rattle.segments.specs.declared.RawOffsetSeg.the-variants.{Line, Arc};
-ghost use Rattle.joins.specs.declared.JoinClass.the-variants.{InvalidInnerGap, InvalidDegenerateGap};
-ghost use Rattle.joins.specs.Boundary.{connected, straight, trimmed, isGap};
+ghost use Rattle.joins.specs.declared.JoinCause.the-variants.{CollapsedSide};
+ghost use Rattle.joins.specs.Boundary.{connected, straight, trimmed};
+ghost use Rattle.joins.specs.InnerSteps.{classOf, isGap};
 ghost use Rattle.joins.specs.Connector.{clampCos, clampSin, bulgeSize, connectorBulge};
-ghost use Rattle.joins.specs.Join.{tangentCause, causeOf, trimmedBy, innerJoin, joinOf};
-ghost use Rattle.joins.specs.Steps.{turnCause, settledBy, joined, seenArc, seenSeg, Joins};
-ghost use Rattle.segments.specs.Steps.{fullSeg, Marked};
-ghost use Rattle.meetings.specs.Steps.{notSeen, angled};
+ghost use Rattle.joins.specs.Join.{tangentTurn, turnOf, trimmedBy, innerJoin, joinOf};
+ghost use Rattle.joins.specs.InnerSteps.{lastTurn, settledBy, joined, seenArc, seenSeg, Joins};
+ghost use Rattle.segments.specs.InnerSteps.{fullSeg, Marked};
+ghost use Rattle.meetings.specs.InnerSteps.{notSeen, angled};
 use meetings::Met;
 use meetings::SeenArc;
 use segments::CarriedArc;
 use segments::CarriedSeg;
 use segments::RawOffsetLine;
+use segments::Settings;
 use vectors::Vector2;
 
 pub enum JoinClass {
@@ -26,8 +28,8 @@ pub enum JoinClass {
     InvalidDegenerateGap,
 }
 
-// Why a join is what it is, in the order of the tests.
-pub enum JoinCause {
+// How a join turns, in the order of the tests.
+pub enum JoinTurn {
     Coincident,
     ZeroTangent,
     SameDirection,
@@ -36,8 +38,39 @@ pub enum JoinCause {
     Inner,
 }
 
+// Why a boundary is what it is: its class, and whether its connector is invalid, are read off.
+pub enum JoinCause {
+    Coincident,
+    Met,
+    OuterTurn,
+    Reversal,
+    CollapsedSide,
+    NoMeeting,
+    CandidatesMissed,
+    ZeroTangent,
+    SameDirection,
+}
+
+impl JoinCause {
+    pub fn class(self) -> JoinClass
+        ensures { λ r. ⌜ r ≡ classOf self ⌝ }
+    {
+        match self {
+            JoinCause::Coincident => JoinClass::Coincident,
+            JoinCause::Met => JoinClass::Trimmed,
+            JoinCause::OuterTurn => JoinClass::OuterRound,
+            JoinCause::Reversal => JoinClass::ReversalRound,
+            JoinCause::CollapsedSide => JoinClass::InvalidInnerGap,
+            JoinCause::NoMeeting => JoinClass::InvalidInnerGap,
+            JoinCause::CandidatesMissed => JoinClass::InvalidInnerGap,
+            JoinCause::ZeroTangent => JoinClass::InvalidDegenerateGap,
+            JoinCause::SameDirection => JoinClass::InvalidDegenerateGap,
+        }
+    }
+}
+
 pub struct JoinBoundary {
-    pub class: JoinClass,
+    pub cause: JoinCause,
     pub current_end: Vector2,
     pub current_param: f64,
     pub next_start: Vector2,
@@ -54,15 +87,15 @@ pub enum Settled {
 impl JoinBoundary {
     // Both spans whole, and a connector of the given bulge.
     pub fn connected(
-        class: JoinClass,
+        cause: JoinCause,
         current_end: Vector2,
         next_start: Vector2,
         connector_bulge: f64,
     ) -> JoinBoundary
-        ensures { λ r. ⌜ r ≡ connected class «current_end» «next_start» «connector_bulge» ⌝ }
+        ensures { λ r. ⌜ r ≡ connected cause «current_end» «next_start» «connector_bulge» ⌝ }
     {
         JoinBoundary {
-            class,
+            cause,
             current_end,
             current_param: 1.0,
             next_start,
@@ -72,10 +105,10 @@ impl JoinBoundary {
     }
 
     // Both spans whole, and a straight connector.
-    pub fn straight(class: JoinClass, current_end: Vector2, next_start: Vector2) -> JoinBoundary
-        ensures { λ r. ⌜ r ≡ straight class «current_end» «next_start» ⌝ }
+    pub fn straight(cause: JoinCause, current_end: Vector2, next_start: Vector2) -> JoinBoundary
+        ensures { λ r. ⌜ r ≡ straight cause «current_end» «next_start» ⌝ }
     {
-        JoinBoundary::connected(class, current_end, next_start, 0.0)
+        JoinBoundary::connected(cause, current_end, next_start, 0.0)
     }
 
     // Both spans cut at one point.
@@ -83,7 +116,7 @@ impl JoinBoundary {
         ensures { λ r. ⌜ r ≡ trimmed point «current_param» «next_param» ⌝ }
     {
         JoinBoundary {
-            class: JoinClass::Trimmed,
+            cause: JoinCause::Met,
             current_end: point,
             current_param,
             next_start: point,
@@ -93,16 +126,19 @@ impl JoinBoundary {
     }
 
     pub fn connector_is_invalid(self) -> bool
-        ensures { λ r. ⌜ r ≡ isGap (self .class) ⌝ }
+        ensures { λ r. ⌜ r ≡ isGap (classOf (self .cause)) ⌝ }
     {
-        let class = self.class;
-        match class {
-            JoinClass::Coincident => false,
-            JoinClass::Trimmed => false,
-            JoinClass::OuterRound => false,
-            JoinClass::ReversalRound => false,
-            JoinClass::InvalidInnerGap => true,
-            JoinClass::InvalidDegenerateGap => true,
+        let cause = self.cause;
+        match cause {
+            JoinCause::Coincident => false,
+            JoinCause::Met => false,
+            JoinCause::OuterTurn => false,
+            JoinCause::Reversal => false,
+            JoinCause::CollapsedSide => true,
+            JoinCause::NoMeeting => true,
+            JoinCause::CandidatesMissed => true,
+            JoinCause::ZeroTangent => true,
+            JoinCause::SameDirection => true,
         }
     }
 }
@@ -174,100 +210,102 @@ fn either_at_most(a: f64, b: f64, limit: f64) -> bool
     a <= limit || b <= limit
 }
 
-fn turn_cause(
+fn last_turn(
     turn: f64,
     alignment: f64,
     incoming_len_sq: f64,
     outgoing_len_sq: f64,
     offset: f64,
-) -> JoinCause
-    ensures { λ r. ⌜ r ≡ turnCause turn alignment «incoming_len_sq» «outgoing_len_sq» offset ⌝ }
+) -> JoinTurn
+    ensures { λ r. ⌜ r ≡ lastTurn turn alignment «incoming_len_sq» «outgoing_len_sq» offset ⌝ }
 {
     if turn * turn <= 1e-8 * 1e-8 * incoming_len_sq * outgoing_len_sq {
         if alignment < 0.0 {
-            return JoinCause::Reversal;
+            return JoinTurn::Reversal;
         }
-        return JoinCause::SameDirection;
+        return JoinTurn::SameDirection;
     }
     if offset * turn > 0.0 {
-        return JoinCause::Inner;
+        return JoinTurn::Inner;
     }
-    JoinCause::Outer
+    JoinTurn::Outer
 }
 
 // By the tangents into and out of the shared vertex: a zero one has no direction.
-fn tangent_cause(incoming: Vector2, outgoing: Vector2, offset: f64, eps: f64) -> JoinCause
-    ensures { λ r. ⌜ r ≡ tangentCause incoming outgoing offset eps ⌝ }
+fn tangent_turn(incoming: Vector2, outgoing: Vector2, settings: Settings) -> JoinTurn
+    ensures { λ r. ⌜ r ≡ tangentTurn incoming outgoing settings ⌝ }
 {
     let incoming_len_sq = incoming.length_squared();
     let outgoing_len_sq = outgoing.length_squared();
+    let eps = settings.eps;
     if either_at_most(incoming_len_sq, outgoing_len_sq, eps * eps) {
-        return JoinCause::ZeroTangent;
+        return JoinTurn::ZeroTangent;
     }
     let turn = incoming.perp_dot(outgoing);
     let alignment = incoming.dot(outgoing);
-    turn_cause(turn, alignment, incoming_len_sq, outgoing_len_sq, offset)
+    last_turn(
+        turn,
+        alignment,
+        incoming_len_sq,
+        outgoing_len_sq,
+        settings.offset,
+    )
 }
 
-pub fn classify_join(current: CarriedSeg, next: CarriedSeg, offset: f64, eps: f64) -> JoinCause
+pub fn classify_join(current: CarriedSeg, next: CarriedSeg, settings: Settings) -> JoinTurn
     requires { ⌜ Marked current × Marked next ⌝ }
-    ensures { λ r. ⌜ r ≡ causeOf (fullSeg current) (fullSeg next) offset eps ⌝ }
+    ensures { λ r. ⌜ r ≡ turnOf (fullSeg current) (fullSeg next) settings ⌝ }
 {
-    if current.end().fuzzy_eq_eps(next.start(), eps) {
-        return JoinCause::Coincident;
+    if current.end().fuzzy_eq_eps(next.start(), settings.eps) {
+        return JoinTurn::Coincident;
     }
-    tangent_cause(current.end_tangent(), next.start_tangent(), offset, eps)
+    tangent_turn(current.end_tangent(), next.start_tangent(), settings)
 }
 
-fn degenerate_gap(current_end: Vector2, next_start: Vector2) -> JoinBoundary
-    ensures { λ r. ⌜ r ≡ straight InvalidDegenerateGap «current_end» «next_start» ⌝ }
-{
-    JoinBoundary::straight(JoinClass::InvalidDegenerateGap, current_end, next_start)
-}
-
-// The boundary of each cause but an inner turn. A coincident one starts the next span at the
+// The boundary of each turn but an inner one. A coincident one starts the next span at the
 // current segment's end.
 pub fn join_without_intersection(
     current: CarriedSeg,
     next: CarriedSeg,
     shared_source_vertex: Vector2,
-    offset: f64,
-    eps: f64,
+    settings: Settings,
 ) -> Settled
     requires { ⌜ Marked current × Marked next ⌝ }
-    ensures { λ r. ⌜ r ≡ settledBy (causeOf (fullSeg current) (fullSeg next) offset eps) (fullSeg current) (fullSeg next) «shared_source_vertex» offset eps ⌝ }
+    ensures { λ r. ⌜ r ≡ settledBy (turnOf (fullSeg current) (fullSeg next) settings) (fullSeg current) (fullSeg next) «shared_source_vertex» settings ⌝ }
 {
     let end = current.end();
     let start = next.start();
-    let cause = classify_join(current, next, offset, eps);
-    match cause {
-        JoinCause::Coincident => Settled::Boundary(JoinBoundary::straight(
-            JoinClass::Coincident,
+    let turn = classify_join(current, next, settings);
+    match turn {
+        JoinTurn::Coincident => Settled::Boundary(JoinBoundary::straight(
+            JoinCause::Coincident,
             end,
             end,
         )),
-        JoinCause::ZeroTangent => Settled::Boundary(degenerate_gap(end, start)),
-        JoinCause::SameDirection => Settled::Boundary(degenerate_gap(end, start)),
-        JoinCause::Reversal => Settled::Boundary(JoinBoundary::connected(
-            JoinClass::ReversalRound,
+        JoinTurn::ZeroTangent => Settled::Boundary(JoinBoundary::straight(
+            JoinCause::ZeroTangent,
             end,
             start,
-            connector_bulge(offset, end, start, shared_source_vertex),
         )),
-        JoinCause::Outer => Settled::Boundary(JoinBoundary::connected(
-            JoinClass::OuterRound,
+        JoinTurn::SameDirection => Settled::Boundary(JoinBoundary::straight(
+            JoinCause::SameDirection,
             end,
             start,
-            connector_bulge(offset, end, start, shared_source_vertex),
         )),
-        JoinCause::Inner => Settled::Inner,
+        JoinTurn::Reversal => Settled::Boundary(JoinBoundary::connected(
+            JoinCause::Reversal,
+            end,
+            start,
+            connector_bulge(settings.offset, end, start, shared_source_vertex),
+        )),
+        JoinTurn::Outer => Settled::Boundary(JoinBoundary::connected(
+            JoinCause::OuterTurn,
+            end,
+            start,
+            connector_bulge(settings.offset, end, start, shared_source_vertex),
+        )),
+        JoinTurn::Inner => Settled::Inner,
     }
-}
-
-fn inner_gap(current_end: Vector2, next_start: Vector2) -> JoinBoundary
-    ensures { λ r. ⌜ r ≡ straight InvalidInnerGap «current_end» «next_start» ⌝ }
-{
-    JoinBoundary::straight(JoinClass::InvalidInnerGap, current_end, next_start)
 }
 
 fn trimmed_or_gap(met: Met, current_end: Vector2, next_start: Vector2) -> JoinBoundary
@@ -279,9 +317,20 @@ fn trimmed_or_gap(met: Met, current_end: Vector2, next_start: Vector2) -> JoinBo
             meeting.current_param,
             meeting.next_param,
         ),
-        Met::NoMeeting => inner_gap(current_end, next_start),
-        Met::CandidatesMissed => inner_gap(current_end, next_start),
+        Met::NoMeeting => JoinBoundary::straight(JoinCause::NoMeeting, current_end, next_start),
+        Met::CandidatesMissed => JoinBoundary::straight(
+            JoinCause::CandidatesMissed,
+            current_end,
+            next_start,
+        ),
     }
+}
+
+// Nothing to meet on one side.
+fn collapsed_side(current_end: Vector2, next_start: Vector2) -> JoinBoundary
+    ensures { λ r. ⌜ r ≡ straight CollapsedSide «current_end» «next_start» ⌝ }
+{
+    JoinBoundary::straight(JoinCause::CollapsedSide, current_end, next_start)
 }
 
 // A boundary, and what is known of the next segment's start angle, if it is an arc.
@@ -338,7 +387,7 @@ fn join_from_line(
                 seen: shown.seen,
             }
         }
-        CarriedSeg::Collapsed(arc) => unseen(inner_gap(current.end, arc.start)),
+        CarriedSeg::Collapsed(arc) => unseen(collapsed_side(current.end, arc.start)),
     }
 }
 
@@ -366,7 +415,7 @@ fn join_from_arc(
                 seen: shown.seen,
             }
         }
-        CarriedSeg::Collapsed(arc) => unseen(inner_gap(current.end, arc.start)),
+        CarriedSeg::Collapsed(arc) => unseen(collapsed_side(current.end, arc.start)),
     }
 }
 
@@ -383,7 +432,7 @@ fn inner_join(
     match current {
         CarriedSeg::Line(line) => join_from_line(line, next, shared_source_vertex, eps),
         CarriedSeg::Arc(arc) => join_from_arc(seen_arc(arc, seen), next, shared_source_vertex, eps),
-        CarriedSeg::Collapsed(arc) => unseen(inner_gap(arc.end, next.start())),
+        CarriedSeg::Collapsed(arc) => unseen(collapsed_side(arc.end, next.start())),
     }
 }
 
@@ -394,15 +443,14 @@ pub fn analyze_join(
     seen: f64,
     next: CarriedSeg,
     shared_source_vertex: Vector2,
-    offset: f64,
-    eps: f64,
+    settings: Settings,
 ) -> Joined
     requires { ⌜ Marked current × Marked next ⌝ }
-    ensures { λ r. ⌜ Joins r (joinOf (seenSeg seen current) (fullSeg next) «shared_source_vertex» offset eps) next ⌝ }
+    ensures { λ r. ⌜ Joins r (joinOf (seenSeg seen current) (fullSeg next) «shared_source_vertex» settings) next ⌝ }
 {
-    let settled = join_without_intersection(current, next, shared_source_vertex, offset, eps);
+    let settled = join_without_intersection(current, next, shared_source_vertex, settings);
     if let Settled::Boundary(boundary) = settled {
         return unseen(boundary);
     }
-    inner_join(current, seen, next, shared_source_vertex, eps)
+    inner_join(current, seen, next, shared_source_vertex, settings.eps)
 }

@@ -3,8 +3,8 @@
 // bits of its arguments. The stored output comes from 01's arithmetic in Rust (`oracle`, `samples`).
 ghost use Prim.Native.Nat.{_<_};
 use joins::JoinBoundary;
-use joins::JoinCause;
 use joins::JoinClass;
+use joins::JoinTurn;
 use meetings::ArcParam;
 use meetings::Met;
 use meetings::Param;
@@ -15,35 +15,14 @@ use segments::PlineVertex;
 use segments::RawOffsetArc;
 use segments::RawOffsetLine;
 use segments::RawOffsetSeg;
-use vectors::Vector2;
-
-fn joined(a: u8, b: u8, c: u8, d: u8) -> u64 {
-    (a as u64) << 24 | (b as u64) << 16 | (c as u64) << 8 | (d as u64)
-}
-
-fn word(row: &[u8; 192], k: usize) -> u64
-    requires { ⌜ k < 24 ⌝ }
-{
-    let i = 8 * k;
-    let high = joined(row[i], row[i + 1], row[i + 2], row[i + 3]);
-    let low = joined(row[i + 4], row[i + 5], row[i + 6], row[i + 7]);
-    high << 32 | low
-}
-
-fn number(row: &[u8; 192], k: usize) -> f64
-    requires { ⌜ k < 24 ⌝ }
-{
-    bits::number_of(word(row, k))
-}
-
-fn vector(row: &[u8; 192], k: usize) -> Vector2
-    requires { ⌜ k < 23 ⌝ }
-{
-    Vector2 {
-        x: number(row, k),
-        y: number(row, k + 1),
-    }
-}
+use segments::Settings;
+use words::number;
+use words::print;
+use words::print_bool;
+use words::print_number;
+use words::print_vector;
+use words::vector;
+use words::word;
 
 fn vertex(row: &[u8; 192], k: usize) -> PlineVertex
     requires { ⌜ k < 22 ⌝ }
@@ -98,33 +77,20 @@ fn arc(row: &[u8; 192], k: usize) -> SeenArc
     seen_arc(row, k, true)
 }
 
+fn settings(row: &[u8; 192], k: usize) -> Settings
+    requires { ⌜ k < 23 ⌝ }
+{
+    Settings {
+        offset: number(row, k),
+        eps: number(row, k + 1),
+    }
+}
+
 // A word that is 1.0 or 0.0.
 fn holds(row: &[u8; 192], k: usize) -> bool
     requires { ⌜ k < 24 ⌝ }
 {
     number(row, k) > 0.0
-}
-
-fn print(text: &[u8]) {
-    let _written = io::write_all(1, text);
-}
-
-fn print_number(x: f64) {
-    print(b" ");
-    let _written = io::print_hex(1, bits::bits_of(x), 16);
-}
-
-fn print_vector(v: Vector2) {
-    print_number(v.x);
-    print_number(v.y);
-}
-
-fn print_bool(x: bool) {
-    if x {
-        print(b" true");
-    } else {
-        print(b" false");
-    }
 }
 
 fn seg_arc_radius_and_center(row: &[u8; 192]) {
@@ -326,14 +292,14 @@ fn round(row: &[u8; 192]) {
     ));
 }
 
-fn print_cause(cause: JoinCause) {
-    match cause {
-        JoinCause::Coincident => print(b" coincident"),
-        JoinCause::ZeroTangent => print(b" zero_tangent"),
-        JoinCause::SameDirection => print(b" same_direction"),
-        JoinCause::Reversal => print(b" reversal"),
-        JoinCause::Outer => print(b" outer"),
-        JoinCause::Inner => print(b" inner"),
+fn print_turn(turn: JoinTurn) {
+    match turn {
+        JoinTurn::Coincident => print(b" coincident"),
+        JoinTurn::ZeroTangent => print(b" zero_tangent"),
+        JoinTurn::SameDirection => print(b" same_direction"),
+        JoinTurn::Reversal => print(b" reversal"),
+        JoinTurn::Outer => print(b" outer"),
+        JoinTurn::Inner => print(b" inner"),
     }
 }
 
@@ -349,8 +315,8 @@ fn print_class(class: JoinClass) {
 }
 
 fn print_boundary(boundary: JoinBoundary) {
-    let class = boundary.class;
-    print_class(class);
+    let cause = boundary.cause;
+    print_class(cause.class());
     print_vector(boundary.current_end);
     print_number(boundary.current_param);
     print_vector(boundary.next_start);
@@ -362,15 +328,14 @@ fn print_boundary(boundary: JoinBoundary) {
 // Three vertices: the segments between them are joined at the second.
 fn join(row: &[u8; 192]) {
     let shared = vertex(row, 4);
-    let offset = number(row, 9);
-    let eps = number(row, 10);
-    let current = CarriedSeg::anew(vertex(row, 1), shared, offset);
-    let next = CarriedSeg::anew(shared, end_vertex(row, 7), offset);
-    let cause = joins::classify_join(current, next, offset, eps);
+    let settings = settings(row, 9);
+    let current = CarriedSeg::anew(vertex(row, 1), shared, settings.offset);
+    let next = CarriedSeg::anew(shared, end_vertex(row, 7), settings.offset);
+    let turn = joins::classify_join(current, next, settings);
     let unseen = meetings::not_seen();
-    let joined = joins::analyze_join(current, unseen, next, shared.pos(), offset, eps);
+    let joined = joins::analyze_join(current, unseen, next, shared.pos(), settings);
     print(b"join");
-    print_cause(cause);
+    print_turn(turn);
     let boundary = joined.boundary;
     print_boundary(boundary);
 }
@@ -378,11 +343,11 @@ fn join(row: &[u8; 192]) {
 // The same join, where the current segment's start angle may be known. The next one's is printed.
 fn seen_join(row: &[u8; 192]) {
     let shared = vertex(row, 4);
-    let offset = number(row, 9);
-    let current = CarriedSeg::anew(vertex(row, 1), shared, offset);
-    let next = CarriedSeg::anew(shared, end_vertex(row, 7), offset);
+    let settings = settings(row, 9);
+    let current = CarriedSeg::anew(vertex(row, 1), shared, settings.offset);
+    let next = CarriedSeg::anew(shared, end_vertex(row, 7), settings.offset);
     let seen = seen_angle(holds(row, 11), number(row, 12));
-    let joined = joins::analyze_join(current, seen, next, shared.pos(), offset, number(row, 10));
+    let joined = joins::analyze_join(current, seen, next, shared.pos(), settings);
     print(b"seen_join");
     let boundary = joined.boundary;
     print_boundary(boundary);

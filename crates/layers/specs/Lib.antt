@@ -1,2 +1,2 @@
 -- What the exports of inner functions say.
-pub mod Told
+pub mod InnerSteps

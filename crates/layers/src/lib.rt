@@ -7,7 +7,7 @@ ghost use Rattle.angles.specs.Angle.{atanOf, tanOf, angleOf};
 ghost use Rattle.intersections.specs.Lines.{lineLine};
 ghost use Rattle.intersections.specs.LineCircle.{lineCircle};
 ghost use Rattle.intersections.specs.Circles.{circleCircle};
-ghost use Rattle.layers.specs.Told.{told, four, lineLineTold, lineCircleTold, circleCircleTold};
+ghost use Rattle.layers.specs.InnerSteps.{listed, four, lineLineListed, lineCircleListed, circleCircleListed};
 use intersections::CircleCircleIntr;
 use intersections::LineCircleIntr;
 use intersections::LineLineIntr;
@@ -84,8 +84,8 @@ pub extern "C" fn layers_angle(cx: f64, cy: f64, px: f64, py: f64) -> f64
     angles::angle(vector(cx, cy), vector(px, py))
 }
 
-fn told_line_line(i: LineLineIntr, out: &mut [f64; 4]) -> u32
-    ensures { λ r. ⌜ told r (now (out .exit)) ≡ lineLineTold i ⌝ }
+fn listed_line_line(i: LineLineIntr, out: &mut [f64; 4]) -> u32
+    ensures { λ r. ⌜ listed r (now (out .exit)) ≡ lineLineListed i ⌝ }
 {
     match i {
         LineLineIntr::NoIntersect => {
@@ -121,18 +121,18 @@ pub extern "C" fn layers_line_line(
     eps: f64,
     out: &mut [f64; 4],
 ) -> u32
-    ensures { λ r. ⌜ told r (now (out .exit)) ≡ lineLineTold (lineLine (record { x = ax; y = ay }) (record { x = bx; y = by }) (record { x = cx; y = cy }) (record { x = dx; y = dy }) eps) ⌝ }
+    ensures { λ r. ⌜ listed r (now (out .exit)) ≡ lineLineListed (lineLine (record { x = ax; y = ay }) (record { x = bx; y = by }) (record { x = cx; y = cy }) (record { x = dx; y = dy }) eps) ⌝ }
 {
     let a = vector(ax, ay);
     let b = vector(bx, by);
     let c = vector(cx, cy);
     let d = vector(dx, dy);
     let i = intersections::line_line_intr(a, b, c, d, eps);
-    told_line_line(i, out)
+    listed_line_line(i, out)
 }
 
-fn told_line_circle(i: LineCircleIntr, out: &mut [f64; 4]) -> u32
-    ensures { λ r. ⌜ told r (now (out .exit)) ≡ lineCircleTold i ⌝ }
+fn listed_line_circle(i: LineCircleIntr, out: &mut [f64; 4]) -> u32
+    ensures { λ r. ⌜ listed r (now (out .exit)) ≡ lineCircleListed i ⌝ }
 {
     match i {
         LineCircleIntr::NoIntersect => {
@@ -163,17 +163,17 @@ pub extern "C" fn layers_line_circle(
     eps: f64,
     out: &mut [f64; 4],
 ) -> u32
-    ensures { λ r. ⌜ told r (now (out .exit)) ≡ lineCircleTold (lineCircle (record { x = ax; y = ay }) (record { x = bx; y = by }) radius (record { x = cx; y = cy }) eps) ⌝ }
+    ensures { λ r. ⌜ listed r (now (out .exit)) ≡ lineCircleListed (lineCircle (record { x = ax; y = ay }) (record { x = bx; y = by }) radius (record { x = cx; y = cy }) eps) ⌝ }
 {
     let a = vector(ax, ay);
     let b = vector(bx, by);
     let c = vector(cx, cy);
     let i = intersections::line_circle_intr(a, b, radius, c, eps);
-    told_line_circle(i, out)
+    listed_line_circle(i, out)
 }
 
-fn told_circle_circle(i: CircleCircleIntr, out: &mut [f64; 4]) -> u32
-    ensures { λ r. ⌜ told r (now (out .exit)) ≡ circleCircleTold i ⌝ }
+fn listed_circle_circle(i: CircleCircleIntr, out: &mut [f64; 4]) -> u32
+    ensures { λ r. ⌜ listed r (now (out .exit)) ≡ circleCircleListed i ⌝ }
 {
     match i {
         CircleCircleIntr::NoIntersect => {
@@ -207,10 +207,10 @@ pub extern "C" fn layers_circle_circle(
     eps: f64,
     out: &mut [f64; 4],
 ) -> u32
-    ensures { λ r. ⌜ told r (now (out .exit)) ≡ circleCircleTold (circleCircle radius1 (record { x = ax; y = ay }) radius2 (record { x = bx; y = by }) eps) ⌝ }
+    ensures { λ r. ⌜ listed r (now (out .exit)) ≡ circleCircleListed (circleCircle radius1 (record { x = ax; y = ay }) radius2 (record { x = bx; y = by }) eps) ⌝ }
 {
     let a = vector(ax, ay);
     let b = vector(bx, by);
     let i = intersections::circle_circle_intr(radius1, a, radius2, b, eps);
-    told_circle_circle(i, out)
+    listed_circle_circle(i, out)
 }

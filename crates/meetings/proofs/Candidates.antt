@@ -5,7 +5,7 @@ use Rattle.intersections.specs.Points.{pointAt}
 use Rattle.segments.specs.declared.RawOffsetLine.{RawOffsetLine}
 use Rattle.segments.specs.declared.RawOffsetArc.{RawOffsetArc}
 use Rattle.meetings.specs.Meetings.{lineArcCandidate}
-use Rattle.meetings.specs.Steps.{lineArcAt}
+use Rattle.meetings.specs.InnerSteps.{lineArcAt}
 
 pub lineArcAt-is :
     (line : RawOffsetLine) (arc : RawOffsetArc) (t ε : Float) → lineArcCandidate line arc t ε ≡ lineArcAt line arc t (pointAt (line .start) (line .end) t) ε

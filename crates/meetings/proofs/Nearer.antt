@@ -2,7 +2,7 @@
 use mathlib.Core.Path.{_≡_, refl}
 use mathlib.Core.Bool.{Bool, true, false}
 use lib.Ieee.{Float, lt}
-use Rattle.floats.specs.Choice.{pick}
+use Rattle.floats.specs.Choice.{when_give_else_}
 use Rattle.floats.proofs.Choice.{yes, no, told}
 use Rattle.meetings.specs.declared.Met.{Met}
 use Rattle.meetings.specs.declared.Met.the-variants.{At, NoMeeting, CandidatesMissed}
@@ -10,7 +10,7 @@ use Rattle.meetings.specs.declared.SeenArc.{SeenArc}
 use Rattle.meetings.specs.declared.SeenMet.{SeenMet}
 use Rattle.meetings.specs.Params.{squaredDistancesEqual}
 use Rattle.meetings.specs.Meetings.{orElse, nearerOf}
-use Rattle.meetings.specs.Steps.{Shows, isAt}
+use Rattle.meetings.specs.InnerSteps.{Shows, isAt}
 
 module _ (d e ε : Float) (a b : Met) (arc : SeenArc) {x y : Float} {t : Bool} {r : SeenMet} (first : x ≡ d) (second : y ≡ e) (asked : t ≡ squaredDistancesEqual x y ε) where
   pub either : t ≡ true → Shows r (orElse a b) arc → Shows r (nearerOf d e ε a b) arc
@@ -26,8 +26,8 @@ module _ (d e ε : Float) (a b : Met) (arc : SeenArc) {x y : Float} {t : Bool} {
   the-second h l q = rw (← first, ← second, ← no _ _ _ (told asked h) (no _ a b l refl)) q
 
 -- `orElse` chooses by whether the first met
-by-first : (a b : Met) → pick (isAt a) a b ≡ orElse a b
-unfolding pick
+by-first : (a b : Met) → when isAt a give a else b ≡ orElse a b
+unfolding when_give_else_
 by-first (At m) b = refl
 by-first NoMeeting b = refl
 by-first CandidatesMissed b = refl

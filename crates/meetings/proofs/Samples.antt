@@ -6,7 +6,7 @@ use mathlib.Core.Bool.{Bool, true, false}
 use mathlib.Core.List.{List, [], _∷_}
 use lib.Ieee.{Float, binary64, ofBits, neg, add, sub, mul, div, lt, le, eq}
 use Rattle.floats.specs.Binary64.{zero, half, one, two, four, eight}
-use Rattle.floats.specs.Choice.{pick, _and_, _or_}
+use Rattle.floats.specs.Choice.{when_give_else_, _and_, _or_}
 use Rattle.floats.specs.Size.{absOf, within}
 use Rattle.floats.specs.Root.{sqrtOf}
 use Rattle.vectors.specs.Plane.{_⊞_, _⊟_, _⊡_, dot, cross, perp, lengthSquared, lengthOf, near}
@@ -40,9 +40,18 @@ abbrev pub written : {A B : Type 0} → List (Row A B) → List B
 written [] = []
 written ((a gives b) ∷ rows) = b ∷ written rows
 
--- all that the rows look through
+-- all that the rows look through: below this crate's rules, and these
+unfoldable pub below : Unit {0}
+unfolding when_give_else_ _and_ _or_ absOf within sqrtOf _⊞_ _⊟_ _⊡_ dot cross perp lengthSquared lengthOf near horner halve atanSmall atanOf wideAngle directionOf angleOf normalizedAngle
+below = tt
+
+-- and the rules of intersections
+unfoldable pub met : Unit {0}
+unfolding below pointAt parameterOf distanceSquared inSpan lineLine lineCircle circleCircle
+met = tt
+
 unfoldable pub opened : Unit {0}
-unfolding pick _and_ _or_ absOf within sqrtOf _⊞_ _⊟_ _⊡_ dot cross perp lengthSquared lengthOf near horner halve atanSmall atanOf wideAngle directionOf angleOf normalizedAngle pointAt parameterOf distanceSquared inSpan lineLine lineCircle circleCircle farPast snappedParam usableLineParam traveled sweptParam usableArcParam squaredDistancesEqual clampParam meetingPoint lineLineMeeting nearerOf lineArcPoint lineArcCandidate lineArcMeeting arcLineMeeting arcArcPoint arcArcCandidate arcArcMeeting ofBits neg add sub mul div lt le eq
+unfolding met farPast snappedParam usableLineParam traveled sweptParam usableArcParam squaredDistancesEqual clampParam meetingPoint lineLineMeeting nearerOf lineArcPoint lineArcCandidate lineArcMeeting arcLineMeeting arcArcPoint arcArcCandidate arcArcMeeting ofBits neg add sub mul div lt le eq
 opened = tt
 
 abbrev pub nan : Float

@@ -3,10 +3,10 @@ use mathlib.Core.Path.{_≡_, refl, sym, ap, _∙_}
 use mathlib.Core.Bool.{Bool, true, false}
 use lib.Ieee.{Float, eq}
 use Rattle.angles.specs.Angle.{angleOf}
-use Rattle.floats.specs.Choice.{pick}
+use Rattle.floats.specs.Choice.{when_give_else_}
 use Rattle.floats.proofs.Choice.{yes, no}
 use Rattle.meetings.specs.declared.SeenArc.{SeenArc}
-use Rattle.meetings.specs.Steps.{startAngle, seenAs}
+use Rattle.meetings.specs.InnerSteps.{startAngle, seenAs}
 
 pub known : (a : SeenArc) → eq (a .seen) (a .seen) ≡ true → a .seen ≡ startAngle a
 unfolding startAngle
@@ -17,12 +17,12 @@ unfolding startAngle
 unknown a h = no _ _ _ h refl
 
 -- what was worked out is handed back: a NaN is worked out again
-again : (b : Bool) (s x : Float) → b ≡ eq s s → pick (eq (pick b s x) (pick b s x)) (pick b s x) x ≡ pick b s x
-unfolding pick
-again true s x h = ap (λ (t : Bool). pick t s x) (sym h)
+again : (b : Bool) (s x : Float) → b ≡ eq s s → when eq (when b give s else x) (when b give s else x) give (when b give s else x) else x ≡ when b give s else x
+unfolding when_give_else_
+again true s x h = ap (λ (t : Bool). when t give s else x) (sym h)
 again false s x h = same (eq x x)
   where
-    same : (t : Bool) → pick t x x ≡ x
+    same : (t : Bool) → when t give x else x ≡ x
     same true = refl
     same false = refl
 

@@ -1,3 +1,3 @@
 pub mod Params
 pub mod Meetings
-pub mod Steps
+pub mod InnerSteps

@@ -3,7 +3,7 @@
 use mathlib.Core.Bool.{Bool}
 use lib.Ieee.{Float, lt}
 use Rattle.floats.specs.Binary64.{zero, one}
-use Rattle.floats.specs.Choice.{pick}
+use Rattle.floats.specs.Choice.{when_give_else_}
 use Rattle.vectors.specs.Plane.{_⊟_, lengthSquared, near}
 use Rattle.vectors.specs.declared.Vector2.{Vector2}
 use Rattle.intersections.specs.Points.{pointAt, parameterOf, distanceSquared}
@@ -33,16 +33,15 @@ metAt p s t = At (record { point = p; «current_param» = s; «next_param» = t 
 
 -- a parameter just past an end is cut to it
 unfoldable pub clampParam : Float → Float
-clampParam t = pick (lt t zero) zero (pick (lt one t) one t)
+clampParam t = when lt t zero give zero else when lt one t give one else t
 
 -- where a parameter was cut, the end itself is the point
 unfoldable pub meetingPoint : RawOffsetLine → RawOffsetLine → Float → Float → Vector2
 meetingPoint current next s t =
-    pick (lt s zero) (current .start)
-    (pick (lt one s) (current .end)
-    (pick (lt t zero) (next .start)
-    (pick (lt one t) (next .end)
-    (pointAt (current .start) (current .end) s))))
+    when lt s zero give current .start else
+    when lt one s give current .end else
+    when lt t zero give next .start else
+    when lt one t give next .end else pointAt (current .start) (current .end) s
 
 -- lines that overlap meet at the current one's end, where that is usable on the next
 abbrev pub overlapMeeting : Vector2 → Param → Met
@@ -77,18 +76,16 @@ orElse CandidatesMissed b = b
 -- Of two candidates the one nearer to the shared source vertex is tried alone, and both, the first first, only where their squared distances d and e to it
 -- count as equal.
 unfoldable pub nearerOf : Float → Float → Float → Met → Met → Met
-nearerOf d e ε a b = pick (squaredDistancesEqual d e ε) (orElse a b) (pick (lt d e) a b)
+nearerOf d e ε a b = when squaredDistancesEqual d e ε give orElse a b else when lt d e give a else b
 
 -- ---- a line and an arc, the line as the current one
 
 -- past an end of the line that end is the point; else an end of the arc that is near stands in
 unfoldable pub lineArcPoint : RawOffsetLine → RawOffsetArc → Float → Vector2 → Float → Vector2
 lineArcPoint line arc t point ε =
-    pick (lt t zero) (line .start)
-    (pick (lt one t) (line .end)
-    (pick (near point (arc .start) ε) (arc .start)
-    (pick (near point (arc .end) ε) (arc .end)
-    point)))
+    when lt t zero give line .start else
+    when lt one t give line .end else
+    when near point (arc .start) ε give arc .start else when near point (arc .end) ε give arc .end else point
 
 -- the candidate at parameter t of the line
 unfoldable pub lineArcCandidate : RawOffsetLine → RawOffsetArc → Float → Float → Met
@@ -121,11 +118,10 @@ arcLineMeeting arc line shared ε = exchanged (lineArcMeeting line arc shared ε
 -- an end that is near stands in for the point
 unfoldable pub arcArcPoint : RawOffsetArc → RawOffsetArc → Vector2 → Float → Vector2
 arcArcPoint current next point ε =
-    pick (near point (current .start) ε) (current .start)
-    (pick (near point (current .end) ε) (current .end)
-    (pick (near point (next .start) ε) (next .start)
-    (pick (near point (next .end) ε) (next .end)
-    point)))
+    when near point (current .start) ε give current .start else
+    when near point (current .end) ε give current .end else
+    when near point (next .start) ε give next .start else
+    when near point (next .end) ε give next .end else point
 
 unfoldable pub arcArcCandidate : RawOffsetArc → RawOffsetArc → Vector2 → Float → Met
 arcArcCandidate current next point ε =

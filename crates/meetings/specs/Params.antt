@@ -3,7 +3,7 @@
 use mathlib.Core.Bool.{Bool}
 use lib.Ieee.{Float, lt, le}
 use Rattle.floats.specs.Binary64.{_⊕_, _⊖_, _⊗_, _⊘_, zero, one, four}
-use Rattle.floats.specs.Choice.{pick, _or_}
+use Rattle.floats.specs.Choice.{when_give_else_, _or_}
 use Rattle.floats.specs.Size.{absOf}
 use Rattle.vectors.specs.Plane.{near}
 use Rattle.vectors.specs.declared.Vector2.{Vector2}
@@ -20,31 +20,29 @@ farPast t k lengthSq ε = lt (ε ⊗ ε) ((t ⊖ k) ⊗ (t ⊖ k) ⊗ lengthSq)
 
 -- the end that was passed, unless by more than ε
 unfoldable pub snappedParam : Float → Float → Float → Float → Param
-snappedParam t k lengthSq ε = pick (farPast t k lengthSq ε) Missed (Usable k)
+snappedParam t k lengthSq ε = when farPast t k lengthSq ε give Missed else Usable k
 
 -- below 0 and above 1 the end stands in; any other, a NaN too, is taken as it is
 unfoldable pub usableLineParam : Float → Float → Float → Param
 usableLineParam t lengthSq ε =
-    pick (lt t zero) (snappedParam t zero lengthSq ε)
-    (pick (lt one t) (snappedParam t one lengthSq ε)
-    (Usable t))
+    when lt t zero give snappedParam t zero lengthSq ε else
+    when lt one t give snappedParam t one lengthSq ε else Usable t
 
 -- how far an arc has run when it reaches an angle: against the clock, or with it where the sweep is negative
 unfoldable pub traveled : RawOffsetArc → Float → Float
-traveled arc φ = pick (lt (arc .sweep) zero) (normalizedAngle (arc .«start_angle» ⊖ φ)) (normalizedAngle (φ ⊖ arc .«start_angle»))
+traveled arc φ = when lt (arc .sweep) zero give normalizedAngle (arc .«start_angle» ⊖ φ) else normalizedAngle (φ ⊖ arc .«start_angle»)
 
 -- by how far it has run: past its end by more than ε, past it by no more, or inside
 unfoldable pub sweptParam : RawOffsetArc → Float → Float → ArcParam
 sweptParam arc run ε =
     let sweep = absOf (arc .sweep) in
-    pick (lt sweep run) (pick (lt ε (arc .radius ⊗ (run ⊖ sweep))) OffArc PastEnd) (Inside (run ⊘ sweep))
+    when lt sweep run give (when lt ε (arc .radius ⊗ (run ⊖ sweep)) give OffArc else PastEnd) else Inside (run ⊘ sweep)
 
 -- the ends are matched first
 unfoldable pub usableArcParam : RawOffsetArc → Vector2 → Float → ArcParam
 usableArcParam arc point ε =
-    pick (near point (arc .start) ε) StartMatched
-    (pick (near point (arc .end) ε) EndMatched
-    (sweptParam arc (traveled arc (angleOf (arc .center) point)) ε))
+    when near point (arc .start) ε give StartMatched else
+    when near point (arc .end) ε give EndMatched else sweptParam arc (traveled arc (angleOf (arc .center) point)) ε
 
 -- the parameter that each way grants
 abbrev pub arcParam : ArcParam → Param

@@ -1,53 +1,18 @@
--- The loop over the bytes of a number, the numbers of a packed job, and what a well formed one has. Assumes nothing.
+-- The numbers of a packed job, and what a well formed one has. Assumes nothing.
 use mathlib.Core.Path.{_≡_, refl, sym, ap, _∙_}
 use mathlib.Core.Bool.{Bool, true, false, not}
 use mathlib.Core.List.{List, _++_}
-use Prim.Native.Nat.{ℕ, zero, suc, _+_, _*_, _^_, _<_, _≤_}
-use native.Mathlib.Nat.{pow-suc, pow-le-pow-right}
-use native.Mathlib.Numerals.{add-one}
+use Prim.Native.Nat.{ℕ, zero, suc, _+_, _*_, _<_, _≤_}
 use native.Mathlib.Omega.{arith}
 use borrow.Author.Tests.{eqb-true, leb-true, ne-eqb, not-false}
 use lib.Ieee.{Float}
-use lib.ListN.{getD, length, drop, length-append}
+use lib.ListN.{length, drop, length-append}
 use lib.Seq.{sets}
 use Rattle.floats.proofs.Choice.{yes, no, and-no, both-pass}
-use Rattle.packed.specs.declared.job.Packed.{Packed}
-use Rattle.packed.specs.declared.job.Packed.the-variants.{Job, Malformed}
-use Rattle.packed.specs.Packed.{bigEndian, numbersOf, wellFormed, countOf, sourceOf, jobOf, decoded, decodedOf}
+use Rattle.packed.specs.declared.unpacked.Packed.{Packed}
+use Rattle.packed.specs.declared.unpacked.Packed.the-variants.{Job, Malformed}
+use Rattle.packed.specs.Packed.{numbersOf, wellFormed, countOf, sourceOf, packedOf, decoded, decodedOf}
 use Rattle.packed.proofs.Writing.{sets-front}
-
--- ---- a number of eight bytes at most
-
--- one byte more
-more : (w b k : ℕ) → w < 256 ^ k → b < 256 → w * 256 + b < 256 ^ suc k
-more w b k h l = rw pow-suc (omega arith)
-
-pub room : (w b k : ℕ) → w < 256 ^ k → b < 256 → k < 8 → w * 256 + b < 2 ^ 64
-room w b k h l m =
-    let p : 256 ^ suc k ≤ 256 ^ 8 = pow-le-pow-right (omega arith) m in
-    omega (arith, more w b k h l)
-
--- after k bytes
-pub record Reading (bytes : List ℕ) (at count word k : ℕ) : Type 0 where
-  pub within : k ≤ count
-  pub small : word < 256 ^ k
-  pub so-far : word ≡ bigEndian bytes at k
-
-module _ {bytes : List ℕ} {at count : ℕ} where
-  pub reading-none : Reading bytes at count 0 0
-  unfolding bigEndian
-  reading-none = record { within = omega arith; small = omega arith; so-far = refl }
-
-  pub reading-turn : {word k b : ℕ} → Reading bytes at count word k → k < count → b < 256 → b ≡ getD bytes (at + k) 0 → Reading bytes at count (word * 256 + b) (k + 1)
-  unfolding bigEndian
-  reading-turn {word} {k} {b} w t s e = record {
-    within = omega arith;
-    small = rw add-one (more word b k (w .small) s);
-    so-far = rw (add-one, w .so-far, e);
-  }
-
-  pub reading-done : {word k : ℕ} → Reading bytes at count word k → count ≤ k → word ≡ bigEndian bytes at count
-  reading-done {word} {k} w d = let n : k ≡ count = omega arith in w .so-far ∙ ap (λ j. bigEndian bytes at j) n
 
 -- ---- the numbers of the vertices
 
@@ -88,10 +53,10 @@ module _ (bytes : List ℕ) where
   -- for whoever calls `decode`: a job has at most 512 vertices, and the list holds their numbers
   module _ (old : List Float) {p : Packed} {s : List Float} {closed : Bool} {v : ℕ} {offset eps : Float} (e : decoded p s ≡ decodedOf bytes old) (j : p ≡ Job closed v offset eps) where
     room-by : (b : Bool) → wellFormed bytes ≡ b → (v ≤ 512) × (3 * v ≤ length s)
-    unfolding decodedOf jobOf sourceOf
+    unfolding decodedOf packedOf sourceOf
     room-by true w =
         let q = e ∙ sym (yes _ _ _ w refl) in
-        let k : p ≡ jobOf bytes = ap (λ d. d .answer) q in
+        let k : p ≡ packedOf bytes = ap (λ d. d .answer) q in
         let n : v ≡ countOf bytes = cc in
         let l = ap (λ d. length (d .source)) q ∙ length-append (sourceOf bytes) (drop (3 * countOf bytes) old) in
         (omega (arith, few w), omega (arith, length-numbers bytes (3 * countOf bytes)))

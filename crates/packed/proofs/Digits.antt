@@ -8,7 +8,7 @@ use native.Mathlib.Omega.{arith}
 use borrow.Author.Tests.{ltb-true, ltb-false}
 use lib.Dec.{ltb}
 use lib.ListN.{length, length-append}
-use Rattle.floats.specs.Choice.{pick}
+use Rattle.floats.specs.Choice.{when_give_else_}
 use Rattle.floats.proofs.Choice.{yes, no}
 use Rattle.io.specs.Digits.{digits, Fewest}
 use Rattle.packed.specs.Text.{_then_, placesOf, decimalOf}
@@ -49,7 +49,7 @@ step d ih n zero h f m = let l : 1 ≤ 0 = f .0 in absurd (omega arith)
 step d ih n (suc zero) h f m = let l : n < 10 = f .1 in absurd (omega arith)
 step d ih n (suc (suc j)) h f m = ap suc (ih (n / 10) (suc j) (omega (arith, pow-suc 10 (suc d))) (less-one n j f))
 
-choose : (n k m : ℕ) → (n < 10 → k ≡ 1) → (10 ≤ n → k ≡ m) → (b : Bool) → ltb n 10 ≡ b → k ≡ pick (ltb n 10) 1 m
+choose : (n k m : ℕ) → (n < 10 → k ≡ 1) → (10 ≤ n → k ≡ m) → (b : Bool) → ltb n 10 ≡ b → k ≡ when ltb n 10 give 1 else m
 choose n k m f g true e = yes _ _ _ e (f (ltb-true _ _ e))
 choose n k m f g false e = no _ _ _ e (g (ltb-false _ _ e))
 
@@ -59,8 +59,8 @@ places zero n k h f = one-digit n k f (omega arith)
 places (suc d) n k h f =
     choose n k (suc (placesOf d (n / 10))) (one-digit n k f) (step d (λ m j. places d m j) n k h f) (ltb n 10) refl
 
-below : (b : Bool) (m d : ℕ) → m ≤ suc d → pick b 1 (suc m) ≤ suc (suc d)
-unfolding pick
+below : (b : Bool) (m d : ℕ) → m ≤ suc d → (when b give 1 else suc m) ≤ suc (suc d)
+unfolding when_give_else_
 below true m d h = omega arith
 below false m d h = omega arith
 

@@ -5,14 +5,15 @@ use mathlib.Core.Bool.{Bool, true, false}
 use Prim.Native.Nat.{ℕ}
 use lib.ListN.{replicate}
 use lib.Ieee.{Float, binary64, ofBits, toBits}
-use Rattle.floats.specs.Choice.{pick, _and_}
-use Rattle.packed.specs.declared.job.Packed.the-variants.{Job}
-use Rattle.packed.specs.Packed.{bigEndian, numberAt, headerOf, closedOf, zeroOf, countOf, offsetOf, epsOf, numbersOf, sourceOf, wellFormed, jobOf, decoded, decodedOf}
+use Rattle.floats.specs.Choice.{when_give_else_, _and_}
+use Rattle.words.specs.Words.{bigEndian, numberAt}
+use Rattle.packed.specs.declared.unpacked.Packed.the-variants.{Job}
+use Rattle.packed.specs.Packed.{headerOf, closedOf, zeroOf, countOf, offsetOf, epsOf, numbersOf, sourceOf, wellFormed, packedOf, decoded, decodedOf}
 use Rattle.packed.specs.Text.{ascii, placesOf, decimalOf, hexOf, refusalOf, headOf, markOf, lineOf, lineAt, linesOf, textOf, printedOf}
 
 -- all that the samples look through
 unfoldable pub opened : Unit {0}
-unfolding pick _and_ ofBits toBits bigEndian numberAt headerOf closedOf zeroOf countOf offsetOf epsOf numbersOf sourceOf wellFormed jobOf decodedOf placesOf decimalOf hexOf refusalOf headOf markOf lineOf lineAt linesOf textOf printedOf
+unfolding when_give_else_ _and_ ofBits toBits bigEndian numberAt headerOf closedOf zeroOf countOf offsetOf epsOf numbersOf sourceOf wellFormed packedOf decodedOf placesOf decimalOf hexOf refusalOf headOf markOf lineOf lineAt linesOf textOf printedOf
 opened = tt
 
 abbrev pub numbers : List ℕ → List Float

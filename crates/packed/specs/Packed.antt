@@ -3,20 +3,12 @@ use Prim.Native.Nat.{ℕ, zero, suc, _+_, _*_, _/_, _%_}
 use mathlib.Core.List.{List, [], _∷_, _++_}
 use mathlib.Core.Bool.{Bool}
 use lib.Dec.{eqb, leb}
-use lib.ListN.{length, getD, drop}
-use lib.Ieee.{Float, binary64, ofBits}
-use Rattle.floats.specs.Choice.{pick, _and_}
-use Rattle.packed.specs.declared.job.Packed.{Packed}
-use Rattle.packed.specs.declared.job.Packed.the-variants.{Job, Malformed}
-
--- the number in k bytes from place i on
-unfoldable pub bigEndian : List ℕ → ℕ → ℕ → ℕ
-bigEndian bytes i zero = 0
-bigEndian bytes i (suc k) = bigEndian bytes i k * 256 + getD bytes (i + k) 0
-
--- 64 bits from place i on: the number with these bits, a NaN for each NaN's pattern
-unfoldable pub numberAt : List ℕ → ℕ → Float
-numberAt bytes i = ofBits binary64 (bigEndian bytes i 8)
+use lib.ListN.{length, drop}
+use lib.Ieee.{Float}
+use Rattle.floats.specs.Choice.{when_give_else_, _and_}
+use Rattle.words.specs.Words.{bigEndian, numberAt}
+use Rattle.packed.specs.declared.unpacked.Packed.{Packed}
+use Rattle.packed.specs.declared.unpacked.Packed.the-variants.{Job, Malformed}
 
 -- 01 §5: the first 16 bits are closed (1 bit), zero (3 bits) and v (12 bits)
 unfoldable pub headerOf : List ℕ → ℕ
@@ -50,8 +42,8 @@ sourceOf bytes = numbersOf bytes (3 * countOf bytes)
 unfoldable pub wellFormed : List ℕ → Bool
 wellFormed bytes = eqb (length bytes) (2 + 16 + 24 * countOf bytes) and eqb (zeroOf bytes) 0 and leb (countOf bytes) 512
 
-unfoldable pub jobOf : List ℕ → Packed
-jobOf bytes = Job (closedOf bytes) (countOf bytes) (offsetOf bytes) (epsOf bytes)
+unfoldable pub packedOf : List ℕ → Packed
+packedOf bytes = Job (closedOf bytes) (countOf bytes) (offsetOf bytes) (epsOf bytes)
 
 -- the answer and what the lent list holds
 pub record Decoded : Type 0 where
@@ -64,6 +56,4 @@ decoded p s = record { answer = p; source = s }
 -- The job, with the vertices' numbers at the start of the list and the rest as it was; or malformed, and the list as it was.
 unfoldable pub decodedOf : List ℕ → List Float → Decoded
 decodedOf bytes old =
-    pick (wellFormed bytes)
-    (decoded (jobOf bytes) (sourceOf bytes ++ drop (3 * countOf bytes) old))
-    (decoded Malformed old)
+    when wellFormed bytes give decoded (packedOf bytes) (sourceOf bytes ++ drop (3 * countOf bytes) old) else decoded Malformed old

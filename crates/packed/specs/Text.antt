@@ -7,7 +7,7 @@ use mathlib.Core.Bool.{Bool, not}
 use lib.Dec.{eqb, ltb, leb}
 use lib.ListN.{getD}
 use lib.Ieee.{Float, binary64, toBits, nan}
-use Rattle.floats.specs.Choice.{pick, _and_}
+use Rattle.floats.specs.Choice.{when_give_else_, _and_}
 use Rattle.io.specs.Digits.{digits}
 
 -- a text's bytes
@@ -28,7 +28,7 @@ w then end = w ++ end ∷ []
 -- how many digits n takes in base 10, up to d + 1
 unfoldable pub placesOf : ℕ → ℕ → ℕ
 placesOf zero n = 1
-placesOf (suc d) n = pick (ltb n 10) 1 (suc (placesOf d (n / 10)))
+placesOf (suc d) n = when ltb n 10 give 1 else suc (placesOf d (n / 10))
 
 -- n in decimal, with no zero in front; 64 bits take at most 20 digits
 unfoldable pub decimalOf : ℕ → List ℕ
@@ -43,7 +43,7 @@ unfoldable pub refusalOf : ℕ → ℕ → List ℕ
 refusalOf number place = (decimalOf number then space) ++ (decimalOf place then lineEnd)
 
 abbrev pub wordOf : Bool → List ℕ
-wordOf closed = pick closed (ascii "closed") (ascii "open")
+wordOf closed = when closed give ascii "closed" else ascii "open"
 
 -- 01 §5: the first line is 0, the count of vertices, and the closed mark
 unfoldable pub headOf : ℕ → Bool → List ℕ
@@ -51,7 +51,7 @@ headOf count closed = (decimalOf 0 then space) ++ (decimalOf count then space) +
 
 -- `-` where no segment leaves the vertex; else `!` where the flag of that segment is 1, and `.` where it is 0
 unfoldable pub markOf : Bool → ℕ → ℕ
-markOf last flag = pick last (code "-") (pick (eqb flag 1) (code "!") (code "."))
+markOf last flag = when last give code "-" else when eqb flag 1 give code "!" else code "."
 
 -- 01 §5: a vertex's line is x, y and bulge by their bits, and the mark of the segment that leaves it
 unfoldable pub lineOf : Float → Float → Float → ℕ → List ℕ
@@ -73,6 +73,6 @@ textOf count closed vertices flags = headOf count closed ++ linesOf count closed
 
 -- 512 closed vertices are offset to 1024 at most: of more than that nothing is printed
 unfoldable pub printedOf : ℕ → Bool → List Float → List ℕ → List ℕ
-printedOf count closed vertices flags = pick (leb count 1024) (textOf count closed vertices flags) []
+printedOf count closed vertices flags = when leb count 1024 give textOf count closed vertices flags else []
 
 infixl 8 _then_

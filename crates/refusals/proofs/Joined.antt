@@ -7,7 +7,7 @@ use native.Mathlib.Omega.{arith}
 use lib.ListN.{length, getD}
 use lib.Ieee.{Float}
 use Rattle.segments.specs.declared.PlineVertex.{PlineVertex}
-use Rattle.refusals.specs.Source.{around}
+use Rattle.source.specs.Source.{around}
 use Rattle.refusals.specs.Limits.{repeats, repeatTests}
 use Rattle.refusals.specs.Rows.{Joined, next, closing}
 use Rattle.refusals.proofs.Tests.{neighbour-at, around-length, around-here, closed-length, closed-last}

@@ -1,5 +1,4 @@
 pub mod First
-pub mod Source
 pub mod Tests
 pub mod Joined
 pub mod Segments

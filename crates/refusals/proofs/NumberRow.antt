@@ -9,6 +9,7 @@ use native.Mathlib.Omega.{arith}
 use lib.ListN.{length, getD}
 use lib.Ieee.{Float, neg}
 use Rattle.segments.specs.declared.PlineVertex.{PlineVertex}
+use Rattle.segments.specs.declared.Settings.{Settings}
 use Rattle.refusals.specs.declared.Place.the-variants.{Nowhere, At}
 use Rattle.refusals.specs.Limits.{reach, leastEps, mostEps, goodVertex, goodOffset, goodEps, numberTests, firstOf}
 use Rattle.refusals.specs.Rows.{Bad, BadVertex, VertexIs, NoneBadBefore, NumberRow, vertex, by-offset, by-eps}
@@ -16,40 +17,40 @@ use Rattle.refusals.proofs.First.{first-row, nowhere-row}
 use Rattle.refusals.proofs.Tests.{vertex-there, holds-before, number-length, number-vertex, number-offset, number-eps}
 use Rattle.refusals.proofs.Bad.{not-fails, vertex↔bad, offset↔bad, eps↔bad}
 
-module _ (vs : List PlineVertex) (offset ε : Float) where
+module _ (vs : List PlineVertex) (σ : Settings) where
   -- what is bad at a place, whether or not something is before it
   data BadAt : ℕ → Type 0 where
     at-vertex : {k : ℕ} {v : PlineVertex} → VertexIs vs k v → BadVertex v → BadAt k
-    at-offset : Bad (neg reach) reach offset → BadAt (length vs)
-    at-eps : Bad leastEps mostEps ε → BadAt (length vs + 1)
+    at-offset : Bad (neg reach) reach (σ .offset) → BadAt (length vs)
+    at-eps : Bad leastEps mostEps (σ .eps) → BadAt (length vs + 1)
 
-  test-vertex : {k : ℕ} {v : PlineVertex} → VertexIs vs k v → getD (numberTests vs offset ε) k false ≡ not (goodVertex v)
-  test-vertex {k} {v} i = number-vertex offset ε vs k v (i .there) ∙ ap (λ (w : PlineVertex). not (goodVertex w)) (i .is)
+  test-vertex : {k : ℕ} {v : PlineVertex} → VertexIs vs k v → getD (numberTests vs σ) k false ≡ not (goodVertex v)
+  test-vertex {k} {v} i = number-vertex σ vs k v (i .there) ∙ ap (λ (w : PlineVertex). not (goodVertex w)) (i .is)
 
-  bad-vertex : (k : ℕ) → k < length vs → getD (numberTests vs offset ε) k false ≡ true → BadAt k
+  bad-vertex : (k : ℕ) → k < length vs → getD (numberTests vs σ) k false ≡ true → BadAt k
   bad-vertex k h t = let w = vertex-there vs k h in at-vertex (w .1) (vertex↔bad (w .0) .0 (not-fails (goodVertex (w .0)) .0 (sym (test-vertex (w .1)) ∙ t)))
 
-  bad-offset : (k : ℕ) → k ≡ length vs → getD (numberTests vs offset ε) k false ≡ true → BadAt k
-  bad-offset k h t = rw h (at-offset (offset↔bad offset .0 (not-fails (goodOffset offset) .0 (sym (number-offset offset ε vs) ∙ rw h at t))))
+  bad-offset : (k : ℕ) → k ≡ length vs → getD (numberTests vs σ) k false ≡ true → BadAt k
+  bad-offset k h t = rw h (at-offset (offset↔bad (σ .offset) .0 (not-fails (goodOffset (σ .offset)) .0 (sym (number-offset σ vs) ∙ rw h at t))))
 
-  bad-eps : (k : ℕ) → k ≡ length vs + 1 → getD (numberTests vs offset ε) k false ≡ true → BadAt k
-  bad-eps k h t = rw h (at-eps (eps↔bad ε .0 (not-fails (goodEps ε) .0 (sym (number-eps offset ε vs) ∙ rw h at t))))
+  bad-eps : (k : ℕ) → k ≡ length vs + 1 → getD (numberTests vs σ) k false ≡ true → BadAt k
+  bad-eps k h t = rw h (at-eps (eps↔bad (σ .eps) .0 (not-fails (goodEps (σ .eps)) .0 (sym (number-eps σ vs) ∙ rw h at t))))
 
-  test→bad : (k : ℕ) → getD (numberTests vs offset ε) k false ≡ true → BadAt k
+  test→bad : (k : ℕ) → getD (numberTests vs σ) k false ≡ true → BadAt k
   test→bad k t =
-      let few : k ≤ length vs + 1 = omega (arith, holds-before (numberTests vs offset ε) k t, number-length offset ε vs) in
+      let few : k ≤ length vs + 1 = omega (arith, holds-before (numberTests vs σ) k t, number-length σ vs) in
       ⊎-elim (λ h. bad-eps k h t)
       (λ m. let some : k ≤ length vs = omega arith in ⊎-elim (λ h. bad-offset k h t) (λ h. bad-vertex k h t) (eq-or-lt-of-le some))
       (eq-or-lt-of-le few)
 
-  bad→test : {k : ℕ} → BadAt k → getD (numberTests vs offset ε) k false ≡ true
+  bad→test : {k : ℕ} → BadAt k → getD (numberTests vs σ) k false ≡ true
   bad→test (at-vertex {k} {v} i b) = test-vertex i ∙ not-fails (goodVertex v) .1 (vertex↔bad v .1 b)
-  bad→test (at-offset b) = number-offset offset ε vs ∙ not-fails (goodOffset offset) .1 (offset↔bad offset .1 b)
-  bad→test (at-eps b) = number-eps offset ε vs ∙ not-fails (goodEps ε) .1 (eps↔bad ε .1 b)
+  bad→test (at-offset b) = number-offset σ vs ∙ not-fails (goodOffset (σ .offset)) .1 (offset↔bad (σ .offset) .1 b)
+  bad→test (at-eps b) = number-eps σ vs ∙ not-fails (goodEps (σ .eps)) .1 (eps↔bad (σ .eps) .1 b)
 
   -- ---- the row: bad there, and not before
 
-  first→row : {k : ℕ} → BadAt k → ((j : ℕ) → j < k → BadAt j → ⊥) → NumberRow vs offset ε k
+  first→row : {k : ℕ} → BadAt k → ((j : ℕ) → j < k → BadAt j → ⊥) → NumberRow vs σ k
   first→row (at-vertex {k} {v} i b) n = vertex k v i b (λ j w h p q. n j h (at-vertex p q))
   first→row (at-offset b) n = by-offset (λ j w h p q. n j h (at-vertex p q)) b
   first→row (at-eps b) n = by-eps (λ j w h p q. n j (omega arith) (at-vertex p q)) (λ q. n (length vs) (omega arith) (at-offset q)) b
@@ -59,20 +60,20 @@ module _ (vs : List PlineVertex) (offset ε : Float) where
   none-before (at-offset q) h l n = omega arith
   none-before (at-eps q) h l n = omega arith
 
-  none-yet : {j : ℕ} → BadAt j → j < length vs + 1 → NoneBadBefore vs (length vs) → (Bad (neg reach) reach offset → ⊥) → ⊥
+  none-yet : {j : ℕ} → BadAt j → j < length vs + 1 → NoneBadBefore vs (length vs) → (Bad (neg reach) reach (σ .offset) → ⊥) → ⊥
   none-yet (at-vertex p q) h n m = n _ _ (p .there) p q
   none-yet (at-offset q) h n m = m q
   none-yet (at-eps q) h n m = omega arith
 
-  row→first : {k : ℕ} → NumberRow vs offset ε k → BadAt k × ((j : ℕ) → j < k → BadAt j → ⊥)
+  row→first : {k : ℕ} → NumberRow vs σ k → BadAt k × ((j : ℕ) → j < k → BadAt j → ⊥)
   row→first (vertex k v i b n) = (at-vertex i b, λ (j : ℕ) h q. none-before q h (omega (arith, i .there)) n)
   row→first (by-offset n b) = (at-offset b, λ (j : ℕ) h q. none-before q h (omega arith) n)
   row→first (by-eps n m b) = (at-eps b, λ (j : ℕ) h q. none-yet q h n m)
 
-  pub number-row : (k : ℕ) → (firstOf (numberTests vs offset ε) ≡ At k) ↔ NumberRow vs offset ε k
+  pub number-row : (k : ℕ) → (firstOf (numberTests vs σ) ≡ At k) ↔ NumberRow vs σ k
   number-row k =
-      Iff·trans (first-row (numberTests vs offset ε) BadAt (λ (j : ℕ). (test→bad j, bad→test)) k)
+      Iff·trans (first-row (numberTests vs σ) BadAt (λ (j : ℕ). (test→bad j, bad→test)) k)
       (λ (r : BadAt k × ((j : ℕ) → j < k → BadAt j → ⊥)). first→row (r .0) (r .1), row→first)
 
-  pub number-nowhere : (firstOf (numberTests vs offset ε) ≡ Nowhere) ↔ ((k : ℕ) → NumberRow vs offset ε k → ⊥)
-  number-nowhere = nowhere-row (firstOf (numberTests vs offset ε)) (NumberRow vs offset ε) number-row
+  pub number-nowhere : (firstOf (numberTests vs σ) ≡ Nowhere) ↔ ((k : ℕ) → NumberRow vs σ k → ⊥)
+  number-nowhere = nowhere-row (firstOf (numberTests vs σ)) (NumberRow vs σ) number-row

@@ -6,23 +6,24 @@ use Prim.Native.Nat.{ℕ, _+_, _*_, _≤_, _<_}
 use native.Mathlib.Omega.{arith}
 use lib.ListN.{length, getD}
 use lib.Ieee.{Float}
-use Rattle.refusals.specs.Source.{verticesOf}
+use Rattle.segments.specs.declared.Settings.{Settings}
+use Rattle.source.specs.Source.{verticesOf}
 use Rattle.refusals.specs.Limits.{goodVertex, goodOffset, goodEps, numberTests}
-use Rattle.refusals.specs.Steps.{vertexOf}
-use Rattle.refusals.proofs.Source.{count-vertices, getD-vertices}
+use Rattle.source.specs.InnerSteps.{vertexOf}
+use Rattle.source.proofs.Source.{count-vertices, getD-vertices}
 use Rattle.refusals.proofs.Tests.{number-length, number-vertex, number-offset, number-eps}
 
-module _ (s : List Float) (v : ℕ) (offset ε : Float) (long : 3 * v ≡ length s) where
-  pub vertex-test : (k : ℕ) → k < v → getD (numberTests (verticesOf s) offset ε) k false ≡ not (goodVertex (vertexOf s k))
+module _ (s : List Float) (v : ℕ) (σ : Settings) (long : 3 * v ≡ length s) where
+  pub vertex-test : (k : ℕ) → k < v → getD (numberTests (verticesOf s) σ) k false ≡ not (goodVertex (vertexOf s k))
   vertex-test k h =
-      number-vertex offset ε (verticesOf s) k (vertexOf s k) (rw (count-vertices s v long) h)
+      number-vertex σ (verticesOf s) k (vertexOf s k) (rw (count-vertices s v long) h)
       ∙ ap (λ w. not (goodVertex w)) (getD-vertices s k (vertexOf s k) (omega arith))
 
-  pub offset-test : getD (numberTests (verticesOf s) offset ε) v false ≡ not (goodOffset offset)
-  offset-test = rw (count-vertices s v long) at (number-offset offset ε (verticesOf s))
+  pub offset-test : getD (numberTests (verticesOf s) σ) v false ≡ not (goodOffset (σ .offset))
+  offset-test = rw (count-vertices s v long) at (number-offset σ (verticesOf s))
 
-  pub eps-test : getD (numberTests (verticesOf s) offset ε) (v + 1) false ≡ not (goodEps ε)
-  eps-test = rw (count-vertices s v long) at (number-eps offset ε (verticesOf s))
+  pub eps-test : getD (numberTests (verticesOf s) σ) (v + 1) false ≡ not (goodEps (σ .eps))
+  eps-test = rw (count-vertices s v long) at (number-eps σ (verticesOf s))
 
-  pub no-more-tests : length (numberTests (verticesOf s) offset ε) ≤ v + 1 + 1
-  no-more-tests = rw (number-length offset ε (verticesOf s), count-vertices s v long) (omega arith)
+  pub no-more-tests : length (numberTests (verticesOf s) σ) ≤ v + 1 + 1
+  no-more-tests = rw (number-length σ (verticesOf s), count-vertices s v long) (omega arith)

@@ -9,14 +9,14 @@ use native.Mathlib.Nat.{eq-or-lt-of-le}
 use native.Mathlib.Omega.{arith}
 use lib.ListN.{length, getD}
 use lib.Ieee.{Float, lt}
-use Rattle.floats.specs.Choice.{pick}
+use Rattle.floats.specs.Choice.{when_give_else_}
 use Rattle.floats.specs.Size.{absOf, within}
 use Rattle.floats.specs.Binary64.{_⊖_}
 use Rattle.floats.proofs.Choice.{both-pass}
 use Rattle.vectors.specs.Plane.{near}
 use Rattle.segments.specs.declared.PlineVertex.{PlineVertex}
 use Rattle.refusals.specs.declared.Place.the-variants.{Nowhere, At}
-use Rattle.refusals.specs.Source.{around}
+use Rattle.source.specs.Source.{around}
 use Rattle.refusals.specs.Limits.{repeats, neighbourTests, repeatTests, firstOf}
 use Rattle.refusals.specs.Rows.{Repeats, Joined, next, closing, RepeatedRow}
 use Rattle.refusals.proofs.First.{first-row, nowhere-row}
@@ -45,8 +45,8 @@ back vs k h = let a = vertex-there vs k (omega arith) in let b = vertex-there vs
 
 pair : (ε : Float) (closed : Bool) (vs : List PlineVertex) (k : ℕ) → k < length (repeatTests ε closed vs) → Pair closed vs k
 unfolding repeatTests
-pair ε false vs k h = unfold around pick in onward false vs k (omega (arith, neighbour-length ε vs))
-pair ε true [] k h = unfold around pick neighbourTests in absurd (omega arith)
+pair ε false vs k h = unfold around when_give_else_ in onward false vs k (omega (arith, neighbour-length ε vs))
+pair ε true [] k h = unfold around when_give_else_ neighbourTests in absurd (omega arith)
 pair ε true (v ∷ vs) k h =
     let ws : List PlineVertex = v ∷ vs in
     let in-it : k + 1 ≤ length ws = omega (arith, neighbour-length ε (around true (v ∷ vs)), closed-length (v ∷ vs) (omega arith)) in

@@ -4,18 +4,18 @@ use mathlib.Core.List.{List, [], _∷_, map}
 use mathlib.Core.Bool.{Bool, true, false}
 use Prim.Native.Nat.{ℕ}
 use lib.Ieee.{Float, binary64, ofBits, neg, add, sub, lt, le, eq}
-use Rattle.floats.specs.Choice.{pick, _and_}
+use Rattle.floats.specs.Choice.{when_give_else_, _and_}
 use Rattle.floats.specs.Size.{absOf, within}
 use Rattle.vectors.specs.Plane.{near}
 use Rattle.segments.specs.declared.PlineVertex.{PlineVertex}
 use Rattle.refusals.specs.declared.Place.{Place}
 use Rattle.refusals.specs.declared.Place.the-variants.{Nowhere, At}
-use Rattle.refusals.specs.Source.{verticesOf, segmentsOf, around}
+use Rattle.source.specs.Source.{verticesOf, segmentsOf, around}
 use Rattle.refusals.specs.Limits.{inside, goodVertex, goodOffset, goodEps, numberTests, repeats, neighbourTests, repeatTests, firstFrom, firstOf}
 
 -- all that the rows look through
 unfoldable pub opened : Unit {0}
-unfolding pick _and_ absOf within near verticesOf segmentsOf around inside goodVertex goodOffset goodEps numberTests repeats neighbourTests repeatTests firstFrom ofBits neg add sub lt le eq
+unfolding when_give_else_ _and_ absOf within near verticesOf segmentsOf around inside goodVertex goodOffset goodEps numberTests repeats neighbourTests repeatTests firstFrom ofBits neg add sub lt le eq
 opened = tt
 
 abbrev pub number : ℕ → Float
@@ -101,7 +101,7 @@ abbrev pub source : List ℕ → List PlineVertex
 source ns = verticesOf (map number ns)
 
 abbrev pub badNumber : List ℕ → ℕ → ℕ → Place
-badNumber ns offset e = firstOf (numberTests (source ns) (number offset) (number e))
+badNumber ns offset e = firstOf (numberTests (source ns) (record { offset = number offset; eps = number e }))
 
 abbrev pub repeated : Bool → List ℕ → Place
 repeated closed ns = firstOf (repeatTests (number ε) closed (source ns))

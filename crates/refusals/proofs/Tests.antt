@@ -8,9 +8,10 @@ use native.Mathlib.Omega.{arith}
 use lib.ListN.{length, take, getD, length-append, List·getD-append}
 use lib.Seq.{getD-append-seam}
 use lib.Ieee.{Float}
-use Rattle.floats.specs.Choice.{pick}
+use Rattle.floats.specs.Choice.{when_give_else_}
 use Rattle.segments.specs.declared.PlineVertex.{PlineVertex}
-use Rattle.refusals.specs.Source.{around}
+use Rattle.segments.specs.declared.Settings.{Settings}
+use Rattle.source.specs.Source.{around}
 use Rattle.refusals.specs.Rows.{VertexIs}
 use Rattle.refusals.specs.Limits.{goodVertex, goodOffset, goodEps, numberTests, repeats, neighbourTests}
 
@@ -26,24 +27,24 @@ holds-before [] k e = let t : true ≡ false = sym e in let z : _≡_ {A = ℕ} 
 holds-before (b ∷ bs) zero e = omega arith
 holds-before (b ∷ bs) (suc k) e = let h = holds-before bs k e in omega arith
 
-module _ (offset ε : Float) where
-  pub number-length : (vs : List PlineVertex) → length (numberTests vs offset ε) ≡ length vs + 2
+module _ (σ : Settings) where
+  pub number-length : (vs : List PlineVertex) → length (numberTests vs σ) ≡ length vs + 2
   unfolding numberTests
   number-length [] = refl
   number-length (v ∷ vs) = rw (number-length vs) (omega arith)
 
-  pub number-vertex : (vs : List PlineVertex) (k : ℕ) (d : PlineVertex) → k < length vs → getD (numberTests vs offset ε) k false ≡ not (goodVertex (getD vs k d))
+  pub number-vertex : (vs : List PlineVertex) (k : ℕ) (d : PlineVertex) → k < length vs → getD (numberTests vs σ) k false ≡ not (goodVertex (getD vs k d))
   unfolding numberTests
   number-vertex [] k d h = absurd (omega arith)
   number-vertex (v ∷ vs) zero d h = refl
   number-vertex (v ∷ vs) (suc k) d h = number-vertex vs k d (omega arith)
 
-  pub number-offset : (vs : List PlineVertex) → getD (numberTests vs offset ε) (length vs) false ≡ not (goodOffset offset)
+  pub number-offset : (vs : List PlineVertex) → getD (numberTests vs σ) (length vs) false ≡ not (goodOffset (σ .offset))
   unfolding numberTests
   number-offset [] = refl
   number-offset (v ∷ vs) = number-offset vs
 
-  pub number-eps : (vs : List PlineVertex) → getD (numberTests vs offset ε) (length vs + 1) false ≡ not (goodEps ε)
+  pub number-eps : (vs : List PlineVertex) → getD (numberTests vs σ) (length vs + 1) false ≡ not (goodEps (σ .eps))
   unfolding numberTests
   number-eps [] = refl
   number-eps (v ∷ vs) = rw add-one (rw add-one at (number-eps vs))
@@ -67,22 +68,22 @@ module _ (ε : Float) where
 -- ---- a source's vertices in the order of its segments
 
 pub around-length : (closed : Bool) (vs : List PlineVertex) → length vs ≤ length (around closed vs)
-unfolding around pick
+unfolding around when_give_else_
 around-length true vs = rw (length-append vs (take 1 vs)) (omega arith)
 around-length false vs = omega arith
 
 pub around-here : (closed : Bool) (vs : List PlineVertex) (k : ℕ) (d : PlineVertex) → k < length vs → getD (around closed vs) k d ≡ getD vs k d
-unfolding around pick
+unfolding around when_give_else_
 around-here true vs k d h = List·getD-append vs (take 1 vs) d k h
 around-here false vs k d h = refl
 
 -- closed, the first vertex stands once more at the end
 pub closed-length : (vs : List PlineVertex) → 0 < length vs → length (around true vs) ≡ length vs + 1
-unfolding around pick
+unfolding around when_give_else_
 closed-length [] h = absurd (omega arith)
 closed-length (v ∷ vs) h = rw (length-append vs (v ∷ [])) (omega arith)
 
 pub closed-last : (vs : List PlineVertex) (d : PlineVertex) → 0 < length vs → getD (around true vs) (length vs) d ≡ getD vs 0 d
-unfolding around pick
+unfolding around when_give_else_
 closed-last [] d h = absurd (omega arith)
 closed-last (v ∷ vs) d h = getD-append-seam vs v [] d

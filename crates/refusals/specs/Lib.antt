@@ -1,4 +1,4 @@
-pub mod Source
+pub mod Table
 pub mod Limits
 pub mod Rows
-pub mod Steps
+pub mod InnerSteps

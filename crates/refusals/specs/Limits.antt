@@ -6,10 +6,11 @@ use lib.Ieee.{Float, binary64, neg, le, ofBits}
 use Rattle.floats.specs.Choice.{_and_}
 use Rattle.vectors.specs.Plane.{near}
 use Rattle.segments.specs.declared.PlineVertex.{PlineVertex}
+use Rattle.segments.specs.declared.Settings.{Settings}
 use Rattle.segments.specs.Vertex.{posOf}
 use Rattle.refusals.specs.declared.Place.{Place}
 use Rattle.refusals.specs.declared.Place.the-variants.{Nowhere, At}
-use Rattle.refusals.specs.Source.{around}
+use Rattle.source.specs.Source.{around}
 
 -- 1,000,000: for x, y and the offset, on either side
 abbrev pub reach : Float
@@ -40,8 +41,8 @@ unfoldable pub goodEps : Float → Bool
 goodEps ε = inside leastEps mostEps ε
 
 -- the tests of No. 3 in their order: each vertex, then the offset at place v, then ε at place v + 1
-unfoldable pub numberTests : List PlineVertex → Float → Float → List Bool
-numberTests vs offset ε = map (λ v. not (goodVertex v)) vs ++ not (goodOffset offset) ∷ not (goodEps ε) ∷ []
+unfoldable pub numberTests : List PlineVertex → Settings → List Bool
+numberTests vs σ = map (λ v. not (goodVertex v)) vs ++ not (goodOffset (σ .offset)) ∷ not (goodEps (σ .eps)) ∷ []
 
 -- two vertices differ by less than ε in x and in y. (The one definition of "repeated".)
 unfoldable pub repeats : Float → PlineVertex → PlineVertex → Bool

@@ -9,6 +9,7 @@ use lib.Ieee.{Float, nan, inf, neg, lt}
 use Rattle.floats.specs.Size.{absOf}
 use Rattle.floats.specs.Binary64.{_⊖_}
 use Rattle.segments.specs.declared.PlineVertex.{PlineVertex}
+use Rattle.segments.specs.declared.Settings.{Settings}
 use Rattle.refusals.specs.Limits.{reach, bulgeLimit, leastEps, mostEps}
 
 -- a NaN, an infinity, or outside the limits
@@ -33,10 +34,10 @@ abbrev pub NoneBadBefore : List PlineVertex → ℕ → Type 0
 NoneBadBefore vs k = (j : ℕ) (v : PlineVertex) → j < k → VertexIs vs j v → BadVertex v → ⊥
 
 -- No. 3 at place k: the first bad vertex; or the offset, at v, where no vertex is bad; or ε, at v + 1, where the offset is not bad either
-pub data NumberRow (vs : List PlineVertex) (offset ε : Float) : ℕ → Type 0 where
-  vertex : (k : ℕ) (v : PlineVertex) → VertexIs vs k v → BadVertex v → NoneBadBefore vs k → NumberRow vs offset ε k
-  by-offset : NoneBadBefore vs (length vs) → Bad (neg reach) reach offset → NumberRow vs offset ε (length vs)
-  by-eps : NoneBadBefore vs (length vs) → (Bad (neg reach) reach offset → ⊥) → Bad leastEps mostEps ε → NumberRow vs offset ε (length vs + 1)
+pub data NumberRow (vs : List PlineVertex) (σ : Settings) : ℕ → Type 0 where
+  vertex : (k : ℕ) (v : PlineVertex) → VertexIs vs k v → BadVertex v → NoneBadBefore vs k → NumberRow vs σ k
+  by-offset : NoneBadBefore vs (length vs) → Bad (neg reach) reach (σ .offset) → NumberRow vs σ (length vs)
+  by-eps : NoneBadBefore vs (length vs) → (Bad (neg reach) reach (σ .offset) → ⊥) → Bad leastEps mostEps (σ .eps) → NumberRow vs σ (length vs + 1)
 
 -- two vertices differ by less than ε in x and in y
 pub record Repeats (ε : Float) (a b : PlineVertex) : Type 0 where

@@ -10,27 +10,28 @@ use borrow.Author.Tests.{leb-true, leb-false}
 use lib.Dec.{leb}
 use lib.ListN.{length, getD, take}
 use lib.Seq.{take-all, length-take-le}
-use Rattle.floats.specs.Choice.{pick}
+use Rattle.floats.specs.Choice.{when_give_else_}
 use Rattle.floats.proofs.Choice.{no}
+use Rattle.refusals.specs.declared.Refusal.the-variants.{Ragged, TooMany, BadNumber, NoRoom, Repeated, NotFinite, Malformed}
 use Rattle.refusals.proofs.First.{by-test}
-use Rattle.refusals.proofs.Segments.{segments-most}
-use Rattle.emission.specs.Buffers.{Buffers}
-use Rattle.raw_offset.specs.declared.RawOffsetAnswer.{RawOffsetAnswer}
-use Rattle.raw_offset.specs.declared.RawOffsetAnswer.the-variants.{Done, Ragged, TooMany, BadNumber, NoRoom, Repeated, NotFinite}
-use Rattle.raw_offset.specs.Job.{number, place, ending}
-use Rattle.raw_offset.specs.Rows.{Job, outcome, places, Given, Short, vertices, flags, indexes}
-use Rattle.raw_offset.proofs.Demand1.{demand-1}
-use Rattle.packed.specs.Packed.{wellFormed, countOf, closedOf, offsetOf, epsOf, sourceOf}
+use Rattle.source.proofs.Segments.{segments-most}
+use Rattle.sheet.specs.Buffers.{Buffers}
+use Rattle.job.specs.declared.RawOffsetAnswer.{RawOffsetAnswer}
+use Rattle.job.specs.declared.RawOffsetAnswer.the-variants.{Done, Refused}
+use Rattle.job.specs.Job.{number, place, ending}
+use Rattle.job.specs.Rows.{Job, outcome, places, Given, Short, vertices, flags, indexes}
+use Rattle.job.proofs.Demand1.{demand-1}
+use Rattle.packed.specs.Packed.{wellFormed, countOf, closedOf, sourceOf}
 use Rattle.packed.specs.Text.{placesOf, decimalOf, headOf, refusalOf, textOf}
 use Rattle.packed.proofs.Bytes.{length-numbers, sized, few}
-use Rattle.reply.specs.Reply.{answerText, outcomeOf, replyOf}
+use Rattle.reply.specs.Reply.{answerText, settingsOf, outcomeOf, replyOf}
 use Rattle.reply.proofs.Texts.{blankJob}
 
 -- ---- as answers
 
 module _ (bytes : List ℕ) (well : wellFormed bytes ≡ true) where
   abbrev job : Job
-  job = blankJob (sourceOf bytes) (closedOf bytes) (offsetOf bytes) (epsOf bytes)
+  job = blankJob (sourceOf bytes) (closedOf bytes) (settingsOf bytes)
 
   numbers : length (sourceOf bytes) ≡ 3 * countOf bytes
   unfolding sourceOf
@@ -60,20 +61,21 @@ module _ (bytes : List ℕ) (well : wellFormed bytes ≡ true) where
 
 -- the first byte is the number's digit
 digit : (a : RawOffsetAnswer) (b : Buffers) → getD (answerText (ending a b)) 0 0 ≡ code "0" + number a
-unfolding answerText pick textOf headOf refusalOf decimalOf placesOf
+unfolding answerText when_give_else_ textOf headOf refusalOf decimalOf placesOf
 digit (Done r) b = refl
-digit Ragged b = refl
-digit TooMany b = refl
-digit (BadNumber k) b = refl
-digit NoRoom b = refl
-digit (Repeated k) b = refl
-digit NotFinite b = refl
+digit (Refused Ragged) b = refl
+digit (Refused TooMany) b = refl
+digit (Refused (BadNumber k)) b = refl
+digit (Refused NoRoom) b = refl
+digit (Refused (Repeated k)) b = refl
+digit (Refused NotFinite) b = refl
+digit (Refused Malformed) b = refl
 
 abbrev pub firstByte : List ℕ → ℕ
 firstByte bytes = getD (replyOf bytes) 0 0
 
 first : (bytes : List ℕ) (well : Bool) → wellFormed bytes ≡ well → (n : ℕ) → n < 7 → (wellFormed bytes ≡ true → number (outcomeOf bytes .answer) ≡ n → ⊥) → firstByte bytes ≡ code "0" + n → ⊥
-unfolding replyOf pick refusalOf decimalOf placesOf
+unfolding replyOf when_give_else_ refusalOf decimalOf placesOf
 first bytes true w n s never e =
     let d = digit (outcomeOf bytes .answer) (outcomeOf bytes .buffers) in
     let f = rw w at e in

@@ -3,7 +3,7 @@ use mathlib.Core.Path.{_≡_, refl}
 use mathlib.Core.List.{List, [], _∷_, _++_}
 use Prim.Native.Nat.{ℕ}
 use lib.ListN.{replicate}
-use Rattle.raw_offset.proofs.PRows as Rows
+use Rattle.job.proofs.PRows as Rows
 use Rattle.packed.specs.Text.{ascii}
 use Rattle.packed.proofs.Samples as Packed
 use Rattle.packed.proofs.Samples.{word, sixthText}
@@ -11,7 +11,7 @@ use Rattle.reply.specs.Reply.{answerText, outcomeOf, replyOf}
 
 -- all that the samples look through
 unfoldable opened : Unit {0}
-unfolding Rows.opened Packed.opened answerText outcomeOf replyOf
+unfolding Rows.reckoned Rows.joined Rows.judged Rows.walked Rows.laid Packed.opened answerText outcomeOf replyOf
 opened = tt
 
 -- the first 16 bits, the offset, ε = 1e-5, and the numbers of the vertices

@@ -7,39 +7,40 @@ use native.Mathlib.Omega.{arith}
 use borrow.Author.Tests.{eq-eqb, ne-eqb}
 use lib.ListN.{length}
 use lib.Ieee.{Float}
+use Rattle.segments.specs.declared.Settings.{Settings}
 use Rattle.floats.proofs.Choice.{yes, no}
-use Rattle.refusals.proofs.Segments.{segments-most}
-use Rattle.emission.specs.declared.RawOffsetResult.{RawOffsetResult}
-use Rattle.emission.specs.Buffers.{Buffers}
-use Rattle.raw_offset.specs.declared.RawOffsetAnswer.{RawOffsetAnswer}
-use Rattle.raw_offset.specs.Job.{Outcome, number, place, result, ending, jobOf}
-use Rattle.raw_offset.specs.Rows.{Job}
-use Rattle.raw_offset.proofs.Fits.{vertices-fit}
+use Rattle.source.proofs.Segments.{segments-most}
+use Rattle.moves.specs.declared.RawOffsetResult.{RawOffsetResult}
+use Rattle.sheet.specs.Buffers.{Buffers}
+use Rattle.job.specs.declared.RawOffsetAnswer.{RawOffsetAnswer}
+use Rattle.job.specs.Job.{Outcome, number, place, result, ending, jobOf}
+use Rattle.job.specs.Rows.{Job}
+use Rattle.job.proofs.Fits.{vertices-fit}
 use Rattle.packed.specs.Text.{refusalOf, printedOf}
 use Rattle.packed.proofs.Lines.{printed-text}
 use Rattle.reply.specs.Reply.{blank, answerText}
 
 -- the job over blank buffers
-abbrev pub blankJob : List Float → Bool → Float → Float → Job
-blankJob s closed offset ε = record { source = s; closed = closed; offset = offset; eps = ε; buffers = blank }
+abbrev pub blankJob : List Float → Bool → Settings → Job
+blankJob s closed σ = record { source = s; closed = closed; settings = σ; buffers = blank }
 
-module _ (s : List Float) (closed : Bool) (offset ε : Float) where
-  pub few-printed : length s ≤ 1536 → result (jobOf s closed offset ε blank .answer) .vertices ≤ 1024
+module _ (s : List Float) (closed : Bool) (σ : Settings) where
+  pub few-printed : length s ≤ 1536 → result (jobOf s closed σ blank .answer) .vertices ≤ 1024
   few-printed h =
-      let f = vertices-fit (blankJob s closed offset ε) in
+      let f = vertices-fit (blankJob s closed σ) in
       let m = segments-most closed (length s / 3) in
       omega arith
 
-  module _ {a : RawOffsetAnswer} {b : Buffers} (ends : ending a b ≡ jobOf s closed offset ε blank) {n : ℕ} (numbered : n ≡ number a) where
+  module _ {a : RawOffsetAnswer} {b : Buffers} (ends : ending a b ≡ jobOf s closed σ blank) {n : ℕ} (numbered : n ≡ number a) where
     pub done-text : length s ≤ 1536 → n ≡ 0 → {r : RawOffsetResult} → r ≡ result a
-        → answerText (jobOf s closed offset ε blank) ≡ printedOf (r .vertices) (r .closed) (b .vertices) (b .flags)
+        → answerText (jobOf s closed σ blank) ≡ printedOf (r .vertices) (r .closed) (b .vertices) (b .flags)
     unfolding answerText
     done-text h z {r} e =
         let few : r .vertices ≤ 1024 = rw (e, ap (λ (o : Outcome). o .answer) ends) (few-printed h) in
         sym (yes _ _ _ (eq-eqb _ _ (ap (λ (o : Outcome). number (o .answer)) (sym ends) ∙ sym numbered ∙ z)) (sym (printed-text _ _ _ _ few) ∙ rw (← ends, e)))
 
-    pub refusal-text : (n ≡ 0 → ⊥) → {k : ℕ} → k ≡ place a → answerText (jobOf s closed offset ε blank) ≡ refusalOf n k
+    pub refusal-text : (n ≡ 0 → ⊥) → {k : ℕ} → k ≡ place a → answerText (jobOf s closed σ blank) ≡ refusalOf n k
     unfolding answerText
     refusal-text z {k} e =
-        let not-done : number (jobOf s closed offset ε blank .answer) ≡ 0 → ⊥ = λ q. z (numbered ∙ ap (λ (o : Outcome). number (o .answer)) ends ∙ q) in
+        let not-done : number (jobOf s closed σ blank .answer) ≡ 0 → ⊥ = λ q. z (numbered ∙ ap (λ (o : Outcome). number (o .answer)) ends ∙ q) in
         sym (no _ _ _ (ne-eqb _ _ not-done) (rw (← ends, ← numbered, ← e)))

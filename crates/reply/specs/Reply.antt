@@ -4,9 +4,12 @@ use mathlib.Core.List.{List}
 use lib.Dec.{eqb}
 use lib.ListN.{replicate}
 use Rattle.floats.specs.Binary64.{zero}
-use Rattle.floats.specs.Choice.{pick}
-use Rattle.emission.specs.Buffers.{Buffers, buffers}
-use Rattle.raw_offset.specs.Job.{Outcome, number, place, result, jobOf}
+use Rattle.floats.specs.Choice.{when_give_else_}
+use Rattle.segments.specs.declared.Settings.{Settings}
+use Rattle.refusals.specs.declared.Refusal.the-variants.{Malformed}
+use Rattle.refusals.specs.Table.{numberOf, placeOf}
+use Rattle.sheet.specs.Buffers.{Buffers, buffers}
+use Rattle.job.specs.Job.{Outcome, number, place, result, jobOf}
 use Rattle.packed.specs.Packed.{wellFormed, sourceOf, closedOf, offsetOf, epsOf}
 use Rattle.packed.specs.Text.{refusalOf, textOf}
 
@@ -17,14 +20,17 @@ blank = buffers (replicate 3072 zero) (replicate 1024 0) (replicate 1024 0)
 -- 01 §5: done, the drawing with its flags; refused, the number and the place
 unfoldable pub answerText : Outcome → List ℕ
 answerText o =
-    pick (eqb (number (o .answer)) 0)
-    (textOf (result (o .answer) .vertices) (result (o .answer) .closed) (o .buffers .vertices) (o .buffers .flags))
-    (refusalOf (number (o .answer)) (place (o .answer)))
+    let r = result (o .answer) in
+    when eqb (number (o .answer)) 0 give textOf (r .vertices) (r .closed) (o .buffers .vertices) (o .buffers .flags) else
+    refusalOf (number (o .answer)) (place (o .answer))
+
+abbrev pub settingsOf : List ℕ → Settings
+settingsOf bytes = record { offset = offsetOf bytes; eps = epsOf bytes }
 
 -- what becomes of a packed job
 unfoldable pub outcomeOf : List ℕ → Outcome
-outcomeOf bytes = jobOf (sourceOf bytes) (closedOf bytes) (offsetOf bytes) (epsOf bytes) blank
+outcomeOf bytes = jobOf (sourceOf bytes) (closedOf bytes) (settingsOf bytes) blank
 
--- 01 §5: what is no packed job is refused by `7 0`
+-- 01 §5: what is no packed job is refused as malformed
 unfoldable pub replyOf : List ℕ → List ℕ
-replyOf bytes = pick (wellFormed bytes) (answerText (outcomeOf bytes)) (refusalOf 7 0)
+replyOf bytes = when wellFormed bytes give answerText (outcomeOf bytes) else refusalOf (numberOf Malformed) (placeOf Malformed)

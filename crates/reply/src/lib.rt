@@ -5,17 +5,16 @@ ghost use mathlib.Core.List.{_++_};
 ghost use Prim.Native.Nat.{_≤_};
 ghost use lib.ListN.{length, drop};
 ghost use Rattle.io.specs.Counts.{Counts};
-ghost use Rattle.raw_offset.specs.Job.{jobOf};
+ghost use Rattle.job.specs.Job.{jobOf};
 ghost use Rattle.reply.specs.Reply.{blank, answerText, replyOf};
 use packed::Packed;
+use refusals::Refusal;
+use segments::Settings;
 
 // Room for the offset of 512 vertices, closed: two vertices a segment.
 const VERTICES: usize = 3072;
 
 const SEGMENTS: usize = 1024;
-
-// 01's number for bytes that are no packed job.
-const MALFORMED: u32 = 7;
 
 // The answer to a packed job, at the start of `text`. Answers its length.
 pub fn reply(bytes: &[u8], text: &mut [u8; 65536]) -> usize
@@ -26,31 +25,38 @@ pub fn reply(bytes: &[u8], text: &mut [u8; 65536]) -> usize
     let mut source = [0.0; 1536];
     let job = packed::decode(bytes, &mut source);
     match job {
-        Packed::Malformed => packed::put_refusal(MALFORMED, 0, text),
+        Packed::Malformed => {
+            let refusal = Refusal::Malformed;
+            packed::put_refusal(refusal.number(), refusal.place(), text)
+        }
         Packed::Job {
             closed,
             vertices,
             offset,
             eps,
-        } => work(&source[..3 * vertices], closed, offset, eps, text),
+        } => work(
+            &source[..3 * vertices],
+            closed,
+            Settings { offset, eps },
+            text,
+        ),
     }
 }
 
 // Works a job of at most 512 vertices, and prints what became of it.
-fn work(source: &[f64], closed: bool, offset: f64, eps: f64, text: &mut [u8; 65536]) -> usize
+fn work(source: &[f64], closed: bool, settings: Settings, text: &mut [u8; 65536]) -> usize
     requires { ⌜ length (now source) ≤ 1536 ⌝ }
     ensures { λ r. ⌜ Counts r (now (text .exit)) ⌝ }
-    ensures { λ r. ⌜ r ≡ length (answerText (jobOf (now (source .entry)) closed offset eps blank)) ⌝ }
-    ensures { λ r. ⌜ now (text .exit) ≡ answerText (jobOf (now (source .entry)) closed offset eps blank) ++ drop r (now (text .entry)) ⌝ }
+    ensures { λ r. ⌜ r ≡ length (answerText (jobOf (now (source .entry)) closed settings blank)) ⌝ }
+    ensures { λ r. ⌜ now (text .exit) ≡ answerText (jobOf (now (source .entry)) closed settings blank) ++ drop r (now (text .entry)) ⌝ }
 {
     let mut vertices = [0.0; VERTICES];
     let mut flags = [0u8; SEGMENTS];
     let mut indexes = [0u32; SEGMENTS];
-    let answer = raw_offset::create_raw_offset(
+    let answer = job::create_raw_offset(
         source,
         closed,
-        offset,
-        eps,
+        settings,
         &mut vertices,
         &mut flags,
         &mut indexes,

@@ -1,3 +1,3 @@
 pub mod Vertex
 pub mod Segment
-pub mod Steps
+pub mod InnerSteps

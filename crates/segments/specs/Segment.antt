@@ -1,9 +1,9 @@
 -- The untrimmed offset segment of two vertices, its ends, tangents and spans (000's create_untrimmed_raw_offset_segs and RawOffsetSeg; 01 §2 and §3).
 -- Definitions only.
 use mathlib.Core.Bool.{Bool, true, false}
-use lib.Ieee.{Float, neg, lt, le}
+use lib.Ieee.{Float, neg, lt}
 use Rattle.floats.specs.Binary64.{_⊕_, _⊖_, _⊗_, _⊘_, zero, fuzzy}
-use Rattle.floats.specs.Choice.{pick, _or_}
+use Rattle.floats.specs.Choice.{when_give_else_}
 use Rattle.vectors.specs.Plane.{_⊞_, _⊟_, _⊡_, negated, perp, unitPerp}
 use Rattle.vectors.specs.declared.Vector2.{Vector2}
 use Rattle.angles.specs.Angle.{angleOf, sweepOf, bulgeOf}
@@ -24,7 +24,7 @@ offsetLine v w offset =
 
 -- a positive offset makes a counterclockwise arc smaller, and a clockwise one larger
 unfoldable pub offsetRadius : ArcSupport → Bool → Float → Float
-offsetRadius c clockwise offset = c .radius ⊕ pick clockwise offset (neg offset)
+offsetRadius c clockwise offset = c .radius ⊕ (when clockwise give offset else neg offset)
 
 -- 01 §3, Radius collapses: r < 0 + 1e-8
 unfoldable pub collapses : Float → Bool
@@ -36,7 +36,7 @@ moved c r radial = c .center ⊞ radial ⊡ (r ⊘ c .radius)
 
 -- the direction of travel at the end of a radius
 unfoldable pub tangent : Bool → Vector2 → Vector2
-tangent clockwise radial = pick clockwise (negated (perp radial)) (perp radial)
+tangent clockwise radial = when clockwise give negated (perp radial) else perp radial
 
 -- past radius zero a straight scaffold is left, with the source arc's tangents
 unfoldable pub collapsedArc : ArcSupport → Float → Bool → Vector2 → Vector2 → CollapsedRawOffsetArc
@@ -59,7 +59,7 @@ offsetArc c r bulge a b = record {
 
 -- a and b are the arc's ends, given from its centre, and r its offset radius
 unfoldable pub offsetCurve : ArcSupport → Float → PlineVertex → Vector2 → Vector2 → RawOffsetSeg
-offsetCurve c r v a b = pick (collapses r) (Collapsed (collapsedArc c r (bulgeIsNeg v) a b)) (Arc (offsetArc c r (v .bulge) a b))
+offsetCurve c r v a b = when collapses r give Collapsed (collapsedArc c r (bulgeIsNeg v) a b) else Arc (offsetArc c r (v .bulge) a b)
 
 unfoldable pub curvedSeg : PlineVertex → PlineVertex → Float → RawOffsetSeg
 curvedSeg v w offset =
@@ -68,7 +68,7 @@ curvedSeg v w offset =
 
 -- the segment from v to w, offset: a line where v's bulge counts as zero
 unfoldable pub offsetSeg : PlineVertex → PlineVertex → Float → RawOffsetSeg
-offsetSeg v w offset = pick (bulgeIsZero v) (Line (offsetLine v w offset)) (curvedSeg v w offset)
+offsetSeg v w offset = when bulgeIsZero v give Line (offsetLine v w offset) else curvedSeg v w offset
 
 abbrev pub startOf : RawOffsetSeg → Vector2
 startOf (Line l) = l .start
@@ -104,7 +104,3 @@ abbrev pub spanBulge : RawOffsetSeg → Float → Float → Float
 spanBulge (Line l) from to = zero
 spanBulge (Arc a) from to = bulgeOf (a .sweep ⊗ (to ⊖ from))
 spanBulge (Collapsed a) from to = zero
-
--- invalid: collapsed, or its end parameter at most its start parameter
-abbrev pub spanIsInvalid : RawOffsetSeg → Float → Float → Bool
-spanIsInvalid g from to = isCollapsed g or le to from

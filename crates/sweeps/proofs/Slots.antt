@@ -9,18 +9,18 @@ use lib.Seq.{getD-set-same, getD-set-other}
 use lib.Ieee.{Float, nan, binary64, fits, ofBits, toBits, neg, add, sub, mul, div, lt, le, eq}
 use lib.Ieee.Bits.{ofBits-toBits}
 use Rattle.floats.specs.Binary64.{zero}
-use Rattle.floats.specs.Choice.{pick}
+use Rattle.floats.specs.Choice.{when_give_else_}
 use Rattle.floats.specs.Size.{absOf}
 use Rattle.floats.specs.Root.{sqrtOf}
 use Rattle.angles.specs.Angle.{horner, halve, atanSmall, quarterTurn, atanOf, sweepOf}
-use Rattle.sweeps.specs.Steps.{Kept}
+use Rattle.sweeps.specs.InnerSteps.{Memo}
 
 -- the sweep that stands where a bulge's bits stand
-pub found : {ks : List ℕ} {ss : List Float} (j : ℕ) {b : ℕ} (x : Float) → T (fits binary64 x) → b ≡ toBits binary64 x → Kept ks ss → j < 16 → getD ks j 0 ≡ b → getD ss j nan ≡ sweepOf x
+pub found : {ks : List ℕ} {ss : List Float} (j : ℕ) {b : ℕ} (x : Float) → T (fits binary64 x) → b ≡ toBits binary64 x → Memo ks ss → j < 16 → getD ks j 0 ≡ b → getD ss j nan ≡ sweepOf x
 found j x held is kept h e = kept .each j h ∙ ap (λ (n : ℕ). sweepOf (ofBits binary64 n)) (e ∙ is) ∙ ap sweepOf (ofBits-toBits binary64 x held)
 
 -- a slot may be written with any bulge and its sweep
-module _ (ks : List ℕ) (ss : List Float) (i : ℕ) (b : ℕ) (s x : Float) (i-lt : i < 16) (kept : Kept ks ss) where
+module _ (ks : List ℕ) (ss : List Float) (i : ℕ) (b : ℕ) (s x : Float) (i-lt : i < 16) (kept : Memo ks ss) where
   here : b ≡ toBits binary64 x → T (fits binary64 x) → s ≡ sweepOf x → getD (set ss i s) i nan ≡ sweepOf (ofBits binary64 (getD (set ks i b) i 0))
   here is held swept =
       getD-set-same ss i s nan (subst (λ (n : ℕ). i < n) (sym (kept .sweeps-long)) i-lt)
@@ -28,7 +28,7 @@ module _ (ks : List ℕ) (ss : List Float) (i : ℕ) (b : ℕ) (s x : Float) (i-
       ∙ ap sweepOf (sym (ofBits-toBits binary64 x held) ∙ ap (ofBits binary64) (sym is))
       ∙ ap (λ (n : ℕ). sweepOf (ofBits binary64 n)) (sym (getD-set-same ks i b 0 (subst (λ (n : ℕ). i < n) (sym (kept .long)) i-lt)))
 
-  pub kept-put : b ≡ toBits binary64 x → T (fits binary64 x) → s ≡ sweepOf x → Kept (set ks i b) (set ss i s)
+  pub kept-put : b ≡ toBits binary64 x → T (fits binary64 x) → s ≡ sweepOf x → Memo (set ks i b) (set ss i s)
   kept-put is held swept = record { long = length-set ks i b ∙ kept .long; sweeps-long = length-set ss i s ∙ kept .sweeps-long; each = λ (j : ℕ) (h : j < 16). at j h (eqb j i) refl }
     where
       at : (j : ℕ) → j < 16 → (t : Bool) → eqb j i ≡ t → getD (set ss i s) j nan ≡ sweepOf (ofBits binary64 (getD (set ks i b) j 0))
@@ -39,11 +39,11 @@ module _ (ks : List ℕ) (ss : List Float) (i : ℕ) (b : ℕ) (s x : Float) (i-
 
 -- the sweep of +0 is +0
 sweep-of-zero : zero ≡ sweepOf (ofBits binary64 0)
-unfolding sweepOf atanOf atanSmall quarterTurn halve horner sqrtOf absOf pick ofBits neg add sub mul div lt le eq
+unfolding sweepOf atanOf atanSmall quarterTurn halve horner sqrtOf absOf when_give_else_ ofBits neg add sub mul div lt le eq
 sweep-of-zero = refl
 
 -- at the start each slot has +0
-pub kept-none : Kept (replicate 16 0) (replicate 16 zero)
+pub kept-none : Memo (replicate 16 0) (replicate 16 zero)
 kept-none = record {
   long = refl;
   sweeps-long = refl;

@@ -4,7 +4,7 @@ ghost use mathlib.Core.Path.{_≡_};
 ghost use Prim.Native.Nat.{_*_, _≤_, _<_};
 ghost use lib.ListN.{length};
 ghost use Rattle.angles.specs.Angle.{sweepOf};
-ghost use Rattle.sweeps.specs.Steps.{Kept};
+ghost use Rattle.sweeps.specs.InnerSteps.{Memo};
 
 // Where a bulge is kept: by its sign, its exponent and some of its digits.
 fn slot(bits: u64) -> usize
@@ -17,8 +17,8 @@ fn slot(bits: u64) -> usize
 
 // Keeps a bulge's sweep in its slot, whatever that had.
 fn keep(keys: &mut [u64; 16], sweeps: &mut [f64; 16], bulge: f64, sweep: f64)
-    requires { ⌜ Kept (now keys) (now sweeps) × (sweep ≡ sweepOf bulge) ⌝ }
-    ensures { λ _. ⌜ Kept (now (keys .exit)) (now (sweeps .exit)) ⌝ }
+    requires { ⌜ Memo (now keys) (now sweeps) × (sweep ≡ sweepOf bulge) ⌝ }
+    ensures { λ _. ⌜ Memo (now (keys .exit)) (now (sweeps .exit)) ⌝ }
 {
     let b = bits::bits_of(bulge);
     let j = slot(b);
@@ -29,8 +29,8 @@ fn keep(keys: &mut [u64; 16], sweeps: &mut [f64; 16], bulge: f64, sweep: f64)
 // A bulge's sweep, worked out side by side with the next one's, and both kept: the next one's last, so
 // that no other takes its slot.
 fn keep_two(keys: &mut [u64; 16], sweeps: &mut [f64; 16], bulge: f64, next: f64) -> f64
-    requires { ⌜ Kept (now keys) (now sweeps) ⌝ }
-    ensures { λ r. ⌜ (r ≡ sweepOf bulge) × Kept (now (keys .exit)) (now (sweeps .exit)) ⌝ }
+    requires { ⌜ Memo (now keys) (now sweeps) ⌝ }
+    ensures { λ r. ⌜ (r ≡ sweepOf bulge) × Memo (now (keys .exit)) (now (sweeps .exit)) ⌝ }
 {
     let both = angles::two_sweeps(bulge, next);
     keep(keys, sweeps, bulge, both.first);
@@ -47,8 +47,8 @@ fn keep_four(
     third: f64,
     fourth: f64,
 ) -> f64
-    requires { ⌜ Kept (now keys) (now sweeps) ⌝ }
-    ensures { λ r. ⌜ (r ≡ sweepOf bulge) × Kept (now (keys .exit)) (now (sweeps .exit)) ⌝ }
+    requires { ⌜ Memo (now keys) (now sweeps) ⌝ }
+    ensures { λ r. ⌜ (r ≡ sweepOf bulge) × Memo (now (keys .exit)) (now (sweeps .exit)) ⌝ }
 {
     let all = angles::four_sweeps(bulge, next, third, fourth);
     keep(keys, sweeps, bulge, all.first);
@@ -69,21 +69,21 @@ pub fn sweep_of(
     k: usize,
     stop: usize,
 ) -> f64
-    requires { ⌜ Kept (now keys) (now sweeps) ⌝ }
+    requires { ⌜ Memo (now keys) (now sweeps) ⌝ }
     requires { ⌜ (k < stop) × (3 * stop ≤ length (now source)) ⌝ }
-    ensures { λ r. ⌜ (r ≡ sweepOf bulge) × Kept (now (keys .exit)) (now (sweeps .exit)) ⌝ }
+    ensures { λ r. ⌜ (r ≡ sweepOf bulge) × Memo (now (keys .exit)) (now (sweeps .exit)) ⌝ }
 {
     let b = bits::bits_of(bulge);
     let j = slot(b);
     if keys[j] == b {
         return sweeps[j];
     }
-    let next = refusals::vertex_at(source, k).bulge;
+    let next = source::vertex_at(source, k).bulge;
     if k + 2 < stop {
         let a = bits::bits_of(next);
         if keys[slot(a)] != a {
-            let third = refusals::vertex_at(source, k + 1).bulge;
-            let fourth = refusals::vertex_at(source, k + 2).bulge;
+            let third = source::vertex_at(source, k + 1).bulge;
+            let fourth = source::vertex_at(source, k + 2).bulge;
             return keep_four(keys, sweeps, bulge, next, third, fourth);
         }
     }

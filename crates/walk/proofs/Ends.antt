@@ -6,15 +6,17 @@ use Prim.Native.Nat.{ℕ, suc, _<_}
 use native.Mathlib.Nat.{zero-lt-suc}
 use lib.ListN.{length}
 use lib.Ieee.{Float}
-use Rattle.floats.specs.Choice.{pick}
+use Rattle.floats.specs.Choice.{when_give_else_}
 use Rattle.vectors.specs.Plane.{near}
 use Rattle.vectors.specs.declared.Vector2.{Vector2}
 use Rattle.segments.specs.declared.PlineVertex.{PlineVertex}
+use Rattle.segments.specs.declared.Settings.{Settings}
 use Rattle.segments.specs.declared.RawOffsetSeg.{RawOffsetSeg}
 use Rattle.segments.specs.Segment.{offsetSeg}
 use Rattle.joins.specs.declared.JoinBoundary.{JoinBoundary}
-use Rattle.emission.specs.declared.Move.{Move}
-use Rattle.walk.specs.Walk.{spanMove, connectorMove, connectorMoves, joinAt, walk, closedLast, closingJoin, walkStart, walkMoves}
+use Rattle.moves.specs.declared.Move.{Move}
+use Rattle.moves.specs.Made.{spanMove, connectorMove}
+use Rattle.walk.specs.Walk.{connectorMoves, joinAt, walk, closedLast, closingJoin, walkStart, walkMoves}
 
 -- moves of which the last ends at p
 pub record EndsAt (p : Vector2) (ms : List Move) : Type 0 where
@@ -31,10 +33,10 @@ pub record Closes (p : Vector2) (ms : List Move) : Type 0 where
 after : (m : Move) {p : Vector2} {ms : List Move} → EndsAt p ms → EndsAt p (m ∷ ms)
 after m e = record { before = m ∷ e .before; closing = e .closing; last = ap (λ (t : List Move). m ∷ t) (e .last); home = e .home }
 
-module _ (closing : JoinBoundary) (offset ε : Float) where
-  closed-last : (i : ℕ) (g : RawOffsetSeg) (t : Float) → EndsAt (closing .«next_start») (closedLast closing ε i g t)
-  unfolding closedLast pick spanMove connectorMove connectorMoves
-  closed-last i g t = by (near (closing .«current_end») (closing .«next_start») ε)
+module _ (closing : JoinBoundary) (σ : Settings) where
+  closed-last : (i : ℕ) (g : RawOffsetSeg) (t : Float) → EndsAt (closing .«next_start») (closedLast closing (σ .eps) i g t)
+  unfolding closedLast when_give_else_ spanMove connectorMove connectorMoves
+  closed-last i g t = by (near (closing .«current_end») (closing .«next_start») (σ .eps))
     where
       folded : Move
       folded = spanMove i g t (closing .«next_start») (closing .«current_param»)
@@ -42,20 +44,20 @@ module _ (closing : JoinBoundary) (offset ε : Float) where
       whole : Move
       whole = spanMove i g t (closing .«current_end») (closing .«current_param»)
 
-      by : (n : Bool) → EndsAt (closing .«next_start») (pick n (folded ∷ []) (whole ∷ connectorMoves i closing))
+      by : (n : Bool) → EndsAt (closing .«next_start») (when n give folded ∷ [] else whole ∷ connectorMoves i closing)
       by true = record { before = []; closing = folded; last = refl; home = refl }
       by false = record { before = whole ∷ []; closing = connectorMove i closing; last = refl; home = refl }
 
-  walk-ends : (i : ℕ) (a b : PlineVertex) (t : Float) (vs : List PlineVertex) → EndsAt (closing .«next_start») (walk (closedLast closing ε) offset ε i a b t vs)
+  walk-ends : (i : ℕ) (a b : PlineVertex) (t : Float) (vs : List PlineVertex) → EndsAt (closing .«next_start») (walk (closedLast closing (σ .eps)) σ i a b t vs)
   unfolding walk connectorMoves
-  walk-ends i a b t [] = closed-last i (offsetSeg a b offset) t
-  walk-ends i a b t (c ∷ vs) = after _ (after _ (walk-ends (suc i) b c (joinAt offset ε a b c .«next_param») vs))
+  walk-ends i a b t [] = closed-last i (offsetSeg a b (σ .offset)) t
+  walk-ends i a b t (c ∷ vs) = after _ (after _ (walk-ends (suc i) b c (joinAt σ a b c .«next_param») vs))
 
-  walk-closes : (i : ℕ) (a b : PlineVertex) (t : Float) (c : PlineVertex) (vs : List PlineVertex) → Closes (closing .«next_start») (walk (closedLast closing ε) offset ε i a b t (c ∷ vs))
+  walk-closes : (i : ℕ) (a b : PlineVertex) (t : Float) (c : PlineVertex) (vs : List PlineVertex) → Closes (closing .«next_start») (walk (closedLast closing (σ .eps)) σ i a b t (c ∷ vs))
   unfolding walk connectorMoves after
-  walk-closes i a b t c vs = record { ends = after _ (after _ (walk-ends (suc i) b c (joinAt offset ε a b c .«next_param») vs)); some = zero-lt-suc _ }
+  walk-closes i a b t c vs = record { ends = after _ (after _ (walk-ends (suc i) b c (joinAt σ a b c .«next_param») vs)); some = zero-lt-suc _ }
 
-pub closed-ends : (offset ε : Float) (a b : PlineVertex) (vs : List PlineVertex) → Closes (walkStart true offset ε a b vs) (walkMoves true offset ε a b vs)
-unfolding walkStart walkMoves pick
-closed-ends offset ε a b [] = let j = closingJoin offset ε a b [] in walk-closes j offset ε 0 a b (j .«next_param») a []
-closed-ends offset ε a b (c ∷ vs) = let j = closingJoin offset ε a b (c ∷ vs) in walk-closes j offset ε 0 a b (j .«next_param») c (vs ++ a ∷ [])
+pub closed-ends : (σ : Settings) (a b : PlineVertex) (vs : List PlineVertex) → Closes (walkStart true σ a b vs) (walkMoves true σ a b vs)
+unfolding walkStart walkMoves when_give_else_
+closed-ends σ a b [] = let j = closingJoin σ a b [] in walk-closes j σ 0 a b (j .«next_param») a []
+closed-ends σ a b (c ∷ vs) = let j = closingJoin σ a b (c ∷ vs) in walk-closes j σ 0 a b (j .«next_param») c (vs ++ a ∷ [])

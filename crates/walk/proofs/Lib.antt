@@ -1,9 +1,6 @@
+pub mod Entered
 pub mod Turning
-pub mod Stretches
-pub mod Rounds
-pub mod Lengths
-pub mod Sources
-pub mod Leads
-pub mod Whole
+pub mod Around
 pub mod Connectors
 pub mod Ends
+pub mod Lengths

@@ -1,85 +1,106 @@
--- The walker's turns draw the moves of the rule: the segment that it carries is the one worked out anew from its vertices, at each turn. Assumes nothing.
-use mathlib.Core.Path.{_≡_, refl, sym, ap, _∙_}
-use mathlib.Core.List.{List, [], _∷_, _++_}
-use Prim.Native.Nat.{ℕ, suc, _+_, _*_}
+-- A walk that is led in draws the rule's moves: the segment that it carries is the one worked out anew from its vertices at each turn, and its pen keeps
+-- the moves that `kept` keeps (`walk-drawn`). Assumes nothing.
+use mathlib.Core.Path.{_≡_, refl, sym, _∙_, subst}
+use mathlib.Core.List.{List, [], _∷_, _++_, append-assoc}
+use mathlib.Core.Bool.{Bool, true, false}
+use Prim.Native.Nat.{ℕ, suc, _+_}
+use native.Mathlib.Nat.{add-assoc, add-zero}
 use native.Mathlib.Numerals.{add-one}
-use native.Mathlib.Omega.{arith}
-use lib.ListN.{length}
+use lib.ListN.{length, length-append}
 use lib.Ieee.{Float}
+use Rattle.floats.specs.Choice.{when_give_else_, _and_}
+use Rattle.vectors.specs.Plane.{near}
 use Rattle.segments.specs.declared.PlineVertex.{PlineVertex}
+use Rattle.segments.specs.declared.Settings.{Settings}
 use Rattle.segments.specs.declared.RawOffsetSeg.{RawOffsetSeg}
 use Rattle.segments.specs.Segment.{offsetSeg}
 use Rattle.joins.specs.declared.JoinBoundary.{JoinBoundary}
-use Rattle.emission.specs.declared.Move.{Move}
-use Rattle.emission.specs.Steps.{Sheet, emits}
-use Rattle.emission.proofs.Emitted.{emits-append}
-use Rattle.walk.specs.Walk.{spanMove, connectorMoves, joinAt, walk}
-use Rattle.walk.specs.Steps.{Standing, walkerAt, turnOf, turned, Trail, advanced, advances, ends}
+use Rattle.moves.specs.declared.Move.{Move}
+use Rattle.moves.specs.declared.Pen.{Pen}
+use Rattle.moves.specs.declared.Stroke.{Stroke}
+use Rattle.moves.specs.Moves as M
+use Rattle.moves.specs.Made.{spanMove}
+use Rattle.moves.specs.Drawing.{moveEnd, kept, lastPoint}
+use Rattle.moves.specs.InnerSteps.{penAfter, stepOf, strokes}
+use Rattle.moves.proofs.Kept as K
+use Rattle.moves.proofs.Strokes.{strokes-append}
+use Rattle.walk.specs.Walk.{connectorMoves, joinAt, walk}
+use Rattle.walk.specs.InnerSteps.{Standing, Stood, afterTurn, turnTo, drawnBy, Advance, advance, goes, drawnOn}
 
-module _ (offset ε : Float) where
-  -- the moves of a turn for each vertex
-  unfoldable pub turnMoves : List PlineVertex → Standing → List Move
-  turnMoves [] w = []
-  turnMoves (c ∷ vs) w = turnOf w c offset ε .span ∷ turnOf w c offset ε .connector ∷ turnMoves vs (turnOf w c offset ε .walker)
+-- ---- what a pen draws of a row of moves
 
-  -- the code's turns draw them
-  pub advances-moves : (vs : List PlineVertex) (r : Trail) → advances offset ε vs r ≡ record { walker = turned offset ε vs (r .walker); sheet = emits ε (turnMoves vs (r .walker)) (r .sheet) }
-  unfolding advances advanced turned turnMoves emits
-  advances-moves [] r = refl
-  advances-moves (c ∷ vs) r = advances-moves vs (advanced offset ε c r)
+-- the pen after kept moves
+abbrev pub penOn : Pen → List Move → Pen
+penOn pen ks = record { last = lastPoint (pen .last) ks; number = record { 0 = pen .number .0 + length ks } }
 
-  pub length-turns : (vs : List PlineVertex) (w : Standing) → length (turnMoves vs w) ≡ 2 * length vs
-  unfolding turnMoves
-  length-turns [] w = refl
-  length-turns (c ∷ vs) w = let l = length-turns vs (turnOf w c offset ε .walker) in omega arith
+-- from `pen` on the moves ms are drawn by the strokes s, and the pen is then `after`
+pub record Draws (e : Float) (pen : Pen) (ms : List Move) (s : List Stroke) (after : Pen) : Type 0 where
+  pub drawn : s ≡ strokes (pen .number .0) (pen .last) (kept e (pen .last) ms)
+  pub left : after ≡ penOn pen (kept e (pen .last) ms)
 
-  pub numbered : (vs : List PlineVertex) (w : Standing) → turned offset ε vs w .source .0 ≡ w .source .0 + length vs
-  unfolding turned turnOf
-  numbered [] w = omega arith
-  numbered (c ∷ vs) w = let l = numbered vs (turnOf w c offset ε .walker) in omega arith
+module _ (e : Float) where
+  pub one-drawn : (pen : Pen) (m : Move) → Draws e pen (m ∷ []) (drawnBy 0 (stepOf pen m e)) (stepOf pen m e .pen)
+  unfolding drawnBy stepOf penAfter strokes M.lastPoint when_give_else_ _and_
+  one-drawn pen m = by (near (pen .last) (m .end) e) refl
+    where
+      by : (b : Bool) → near (pen .last) (m .end) e ≡ b → Draws e pen (m ∷ []) (drawnBy 0 (stepOf pen m e)) (stepOf pen m e .pen)
+      by true h = record {
+        drawn = rw (h, K.kept-one-near moveEnd (λ x y. near x y e) (pen .last) m h);
+        left = rw (h, K.kept-one-near moveEnd (λ x y. near x y e) (pen .last) m h, add-zero);
+      }
+      by false h = record {
+        drawn = rw (h, K.kept-one-far moveEnd (λ x y. near x y e) (pen .last) m h);
+        left = rw (h, K.kept-one-far moveEnd (λ x y. near x y e) (pen .last) m h);
+      }
 
-  pub advances-snoc : (vs : List PlineVertex) (c : PlineVertex) (r : Trail) → advances offset ε (vs ++ c ∷ []) r ≡ advanced offset ε c (advances offset ε vs r)
-  unfolding advances
-  advances-snoc [] c r = refl
-  advances-snoc (d ∷ vs) c r = advances-snoc vs c (advanced offset ε d r)
+  -- one row after another
+  pub both-drawn : {pen pen′ pen″ : Pen} {ms ns : List Move} {s t : List Stroke} → Draws e pen ms s pen′ → Draws e pen′ ns t pen″ → Draws e pen (ms ++ ns) (s ++ t) pen″
+  both-drawn {pen} {ms = ms} {ns = ns} c d =
+      let k = K.kept-append moveEnd (λ x y. near x y e) (pen .last) ms ns in
+      let d′ = rw (c .left) at d in
+      record {
+        drawn = rw (c .drawn, d′ .drawn, k) (sym (strokes-append _ _ _ _));
+        left = d′ .left ∙ rw (k, length-append, add-assoc, K.lastPoint-append moveEnd);
+      }
 
-  pub advances-one : (c : PlineVertex) (r : Trail) → advances offset ε (c ∷ []) r ≡ advanced offset ε c r
-  unfolding advances
-  advances-one c r = refl
+-- ---- a walk that is led in
 
-  -- the next walker stands at the next segment, worked out anew
-  pub turn-walker : (i : ℕ) (a b c : PlineVertex) (e : JoinBoundary) → turnOf (walkerAt i a b e offset) c offset ε .walker ≡ walkerAt (suc i) b c (joinAt offset ε a b c) offset
-  unfolding turnOf walkerAt joinAt
-  turn-walker i a b c e = rw add-one
+-- at segment i, from a to b, whose span starts at the boundary j
+abbrev pub led : Settings → ℕ → PlineVertex → PlineVertex → JoinBoundary → Pen → Stood
+led σ i a b j pen = record { walker = record { source = record { 0 = i }; current = offsetSeg a b (σ .offset); vertex = b; entry = j }; pen = pen; leading = 0 }
 
-  -- its moves are the rule's
-  turn-moves : (i : ℕ) (a b c : PlineVertex) (e : JoinBoundary) (ms : List Move)
-      → spanMove i (offsetSeg a b offset) (e .«next_param») (joinAt offset ε a b c .«current_end») (joinAt offset ε a b c .«current_param») ∷ connectorMoves i (joinAt offset ε a b c) ++ ms
-      ≡ turnOf (walkerAt i a b e offset) c offset ε .span ∷ turnOf (walkerAt i a b e offset) c offset ε .connector ∷ ms
-  unfolding turnOf walkerAt joinAt connectorMoves
-  turn-moves i a b c e ms = refl
+-- the moves of the segment where a walk stands, as its last
+abbrev pub lastOf : (ℕ → RawOffsetSeg → Float → List Move) → Standing → List Move
+lastOf last w = last (w .source .0) (w .current) (w .entry .«next_param»)
 
-  -- ---- the rule's walk is the moves of the turns, and then the last ones
-  module _ (last : ℕ → RawOffsetSeg → Float → List Move) where
-    abbrev lastOf : Standing → List Move
-    lastOf w = last (w .source .0) (w .current) (w .entry .«next_param»)
+module _ (closed : Bool) (σ : Settings) where
+  pub goes-append : (vs us : List PlineVertex) (w : Stood) → drawnOn closed σ (vs ++ us) w ≡ drawnOn closed σ vs w ++ drawnOn closed σ us (goes closed σ vs w)
+  unfolding drawnOn goes
+  goes-append [] us w = refl
+  goes-append (c ∷ vs) us w = simp (goes-append vs us (advance closed σ c w .stood), append-assoc)
 
-    abbrev onward : List PlineVertex → Standing → List Move
-    onward vs w = turnMoves vs w ++ lastOf (turned offset ε vs w)
+  -- a turn of it: its moves are drawn, and it is led in at the next segment
+  module _ (i : ℕ) (a b c : PlineVertex) (j : JoinBoundary) (pen : Pen) where
+    unfoldable pub turned : Advance
+    turned = advance closed σ c (led σ i a b j pen)
 
-    pub walk-turns : (vs : List PlineVertex) (i : ℕ) (a b : PlineVertex) (e : JoinBoundary)
-        → walk last offset ε i a b (e .«next_param») vs ≡ onward vs (walkerAt i a b e offset)
-    unfolding walk turned turnMoves
-    walk-turns [] i a b e = unfold walkerAt in refl
-    walk-turns (c ∷ vs) i a b e =
-        let j = joinAt offset ε a b c in
-        ap (λ (ms : List Move). spanMove i (offsetSeg a b offset) (e .«next_param») (j .«current_end») (j .«current_param») ∷ connectorMoves i j ++ ms)
-        (walk-turns vs (suc i) b c j ∙ ap (onward vs) (sym (turn-walker i a b c e)))
-        ∙ turn-moves i a b c e (onward vs (turnOf (walkerAt i a b e offset) c offset ε .walker))
+    turn-led : turned .stood ≡ led σ (suc i) b c (joinAt σ a b c) (turned .stood .pen)
+    unfolding turned advance turnTo afterTurn joinAt
+    turn-led = rw add-one
 
-    pub walk-ends : (vs : List PlineVertex) (i : ℕ) (a b : PlineVertex) (e : JoinBoundary) (s : Sheet)
-        → ends last ε (advances offset ε vs (record { walker = walkerAt i a b e offset; sheet = s })) ≡ emits ε (walk last offset ε i a b (e .«next_param») vs) s
-    unfolding ends
-    walk-ends vs i a b e s =
-        let w = walkerAt i a b e offset in
-        rw (advances-moves vs (record { walker = w; sheet = s }), walk-turns vs i a b e, emits-append)
+    pub turn-drawn : let k = joinAt σ a b c in
+        Draws (σ .eps) pen (spanMove i (offsetSeg a b (σ .offset)) (j .«next_param») (k .«current_end») (k .«current_param») ∷ connectorMoves i k) (turned .strokes) (turned .stood .pen)
+    unfolding turned advance turnTo afterTurn joinAt connectorMoves
+    turn-drawn = both-drawn (σ .eps) (one-drawn (σ .eps) pen _) (one-drawn (σ .eps) _ _)
+
+  -- it draws what the rule's walk has, if it draws the last moves
+  pub walk-drawn : (last : ℕ → RawOffsetSeg → Float → List Move) (vs : List PlineVertex) (i : ℕ) (a b : PlineVertex) (j : JoinBoundary) (pen : Pen) {s : List Stroke} {q : Pen}
+      → Draws (σ .eps) (goes closed σ vs (led σ i a b j pen) .pen) (lastOf last (goes closed σ vs (led σ i a b j pen) .walker)) s q
+      → Draws (σ .eps) pen (walk last σ i a b (j .«next_param») vs) (drawnOn closed σ vs (led σ i a b j pen) ++ s) q
+  unfolding walk goes drawnOn turned
+  walk-drawn last [] i a b j pen d = d
+  walk-drawn last (c ∷ vs) i a b j pen {s} {q} d =
+      rw append-assoc (both-drawn (σ .eps) (turn-drawn i a b c j pen)
+      (subst (λ (w : Stood). Draws (σ .eps) (goes closed σ vs w .pen) (lastOf last (goes closed σ vs w .walker)) s q
+      → Draws (σ .eps) (w .pen) (walk last σ (suc i) b c (joinAt σ a b c .«next_param») vs) (drawnOn closed σ vs w ++ s) q)
+      (sym (turn-led i a b c j pen)) (walk-drawn last vs (suc i) b c (joinAt σ a b c) _) d))

@@ -1,6 +1,6 @@
 -- `direction` meets its contract. Assumes nothing.
 use Rattle.floats.proofs.Same.{choices}
-use Rattle.angles.specs.Steps.{directionBy}
+use Rattle.angles.specs.InnerSteps.{directionBy}
 use Rattle.angles.proofs.direction.Statement.{statement}
 use Rattle.angles.proofs.direction.Tie as tie
 

@@ -1,6 +1,6 @@
 -- `reduced` meets its contract. Assumes nothing.
 use Rattle.floats.proofs.Same.{choices}
-use Rattle.angles.specs.Steps.{reduced}
+use Rattle.angles.specs.InnerSteps.{reduced}
 use Rattle.angles.proofs.reduced.Statement.{statement}
 use Rattle.angles.proofs.reduced.Tie as tie
 

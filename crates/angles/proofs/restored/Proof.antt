@@ -1,6 +1,6 @@
 -- `restored` meets its contract. Assumes nothing.
 use Rattle.floats.proofs.Same.{choices}
-use Rattle.angles.specs.Steps.{restored}
+use Rattle.angles.specs.InnerSteps.{restored}
 use Rattle.angles.proofs.restored.Statement.{statement}
 use Rattle.angles.proofs.restored.Tie as tie
 

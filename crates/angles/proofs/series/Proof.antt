@@ -1,6 +1,6 @@
 -- `series` meets its contract. Assumes nothing.
 use borrow.Author.Needs.{needs}
-use Rattle.angles.specs.Steps.{series}
+use Rattle.angles.specs.InnerSteps.{series}
 use Rattle.angles.proofs.series.Statement.{statement}
 use Rattle.angles.proofs.series.Tie as tie
 

@@ -1,6 +1,6 @@
 -- `slope` meets its contract. Assumes nothing.
 use Rattle.floats.proofs.Same.{choices}
-use Rattle.angles.specs.Steps.{slope}
+use Rattle.angles.specs.InnerSteps.{slope}
 use Rattle.angles.proofs.slope.Statement.{statement}
 use Rattle.angles.proofs.slope.Tie as tie
 

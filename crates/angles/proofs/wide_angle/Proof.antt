@@ -1,6 +1,6 @@
 -- `wide_angle` meets its contract. Assumes nothing.
 use Rattle.floats.proofs.Same.{choices}
-use Rattle.angles.specs.Steps.{wideBy}
+use Rattle.angles.specs.InnerSteps.{wideBy}
 use Rattle.angles.proofs.wide_angle.Statement.{statement}
 use Rattle.angles.proofs.wide_angle.Tie as tie
 

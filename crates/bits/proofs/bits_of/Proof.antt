@@ -2,7 +2,7 @@
 use mathlib.Core.Path.{refl}
 use borrow.Author.Needs.{needs}
 use lib.Ieee.{toBits}
-use Rattle.bits.proofs.Told.{is-nan, no-nan}
+use Rattle.bits.proofs.Nans.{is-nan, no-nan}
 use Rattle.bits.proofs.bits_of.Statement.{statement}
 use Rattle.bits.proofs.bits_of.Tie as tie
 

@@ -1,7 +1,7 @@
 -- `number_of` meets its contract. Assumes nothing.
 use mathlib.Core.Path.{_∙_}
 use borrow.Author.Needs.{needs}
-use Rattle.bits.proofs.Told.{above, not-above, made}
+use Rattle.bits.proofs.Nans.{above, not-above, made}
 use Rattle.bits.proofs.number_of.Statement.{statement}
 use Rattle.bits.proofs.number_of.Tie as tie
 

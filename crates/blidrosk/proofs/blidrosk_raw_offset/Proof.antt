@@ -6,8 +6,9 @@ use Rattle.blidrosk.proofs.blidrosk_raw_offset.Tie as tie
 
 returns : tie.Need-returns
 returns c =
-    let called = c .before .before .before .before in
-    tells _ _ _ _ _ _ (called .before .before .before .before .before .before .before .create-raw-offset .ensures) (called .number .ensures) (c .before .before .before .place .ensures) (c .before .before .result .ensures)
+    let numbered = c .before .before .before .before in
+    let call = numbered .before .before .before .before .before .before .before in
+    tells _ _ _ _ _ _ (call .create-raw-offset .ensures) (numbered .number .ensures) (c .before .before .before .place .ensures) (c .before .before .result .ensures)
 
 pub blidrosk-raw-offset-spec : {M : Type 1} → statement M
 blidrosk-raw-offset-spec =

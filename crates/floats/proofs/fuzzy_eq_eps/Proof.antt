@@ -1,3 +1,4 @@
+-- `floats::fuzzy_eq_eps` meets its contract. Assumes nothing.
 use Rattle.floats.specs.Size.{within}
 use Rattle.floats.proofs.fuzzy_eq_eps.Statement.{statement}
 use Rattle.floats.proofs.fuzzy_eq_eps.Tie as tie

@@ -8,7 +8,7 @@ use lib.Dec.{T}
 use lib.Ieee.{binary64, fits, ofBits, toBits}
 use lib.Ieee.Bits.{ofBits-toBits}
 use Rattle.floats.specs.Root.{sqrtOf}
-use Rattle.floats.specs.Steps.{NearRoot}
+use Rattle.floats.specs.InnerSteps.{NearRoot}
 use Rattle.floats.proofs.Residue.{unwrapped}
 use Rattle.floats.proofs.Reading.{above-no-nan, root-of-bits}
 use Rattle.floats.proofs.Even.{evened, result-lt, result-is, to-two}

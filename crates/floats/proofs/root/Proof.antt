@@ -3,7 +3,7 @@ use borrow.Author.Needs.{needs}
 use mathlib.Core.Path.{_≡_, sym, subst}
 use Prim.Native.Nat.{ℕ, _+_, _*_, _/_, _^_, _<_}
 use native.Mathlib.Omega.{arith}
-use Rattle.floats.specs.Steps.{NearRoot}
+use Rattle.floats.specs.InnerSteps.{NearRoot}
 use Rattle.floats.proofs.Residue.{product-lt, upper, lower, unwrapped, excess}
 use Rattle.floats.proofs.root.Statement.{statement}
 use Rattle.floats.proofs.root.Tie as tie

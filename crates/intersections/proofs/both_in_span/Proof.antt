@@ -1,3 +1,4 @@
+-- `intersections::both_in_span` meets its contract. Assumes nothing.
 use Rattle.floats.proofs.Choice.{branches}
 use Rattle.intersections.proofs.both_in_span.Statement.{statement}
 use Rattle.intersections.proofs.both_in_span.Tie as tie

@@ -32,7 +32,18 @@ returns-4 c =
     let tangent = c .before .before .before .before .before in
     let apart = tangent .before .before .before .before in
     let far = apart .before .before in
-    rw (← far .before .before .sub .ensures, ← far .before .length .ensures, ← tangent .before .before .before .scale .ensures, ← tangent .before .before .add .ensures, ← c .before .before .before .before .perp .ensures, ← c .before .before .before .sqrt .ensures, ← c .before .before .scale2 .ensures, ← c .before .add2 .ensures, ← c .sub2 .ensures)
+    rw (
+      ← far .before .before .sub .ensures,
+      ← far .before .length .ensures,
+      ← tangent .before .before .before .scale .ensures,
+      ← tangent .before .before .add .ensures,
+      ←
+          c .before .before .before .before .perp .ensures,
+      ← c .before .before .before .sqrt .ensures,
+      ← c .before .before .scale2 .ensures,
+      ← c .before .add2 .ensures,
+      ← c .sub2 .ensures,
+    )
     (no _ _ _ (far .if1 .left) (no _ _ _ (told (apart .before .are-apart .ensures) (apart .if2 .left)) (no _ _ _ (told (tangent .before .are-tangent .ensures) (tangent .if3 .left)) refl)))
 
 pub circle-circle-intr-spec : {M : Type 1} → statement M

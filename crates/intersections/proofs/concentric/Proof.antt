@@ -1,3 +1,4 @@
+-- `intersections::concentric` meets its contract. Assumes nothing.
 use Rattle.floats.proofs.Choice.{branches}
 use Rattle.intersections.proofs.concentric.Statement.{statement}
 use Rattle.intersections.proofs.concentric.Tie as tie

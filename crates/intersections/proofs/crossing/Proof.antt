@@ -1,3 +1,4 @@
+-- `intersections::crossing` meets its contract. Assumes nothing.
 use Rattle.floats.proofs.Choice.{branches}
 use Rattle.intersections.proofs.crossing.Statement.{statement}
 use Rattle.intersections.proofs.crossing.Tie as tie

@@ -1,3 +1,4 @@
+-- `intersections::dist_squared` meets its contract. Assumes nothing.
 use Rattle.intersections.specs.Points.{distanceSquared}
 use Rattle.intersections.proofs.dist_squared.Statement.{statement}
 use Rattle.intersections.proofs.dist_squared.Tie as tie

@@ -1,3 +1,4 @@
+-- `intersections::in_span` meets its contract. Assumes nothing.
 use Rattle.floats.proofs.Choice.{branches}
 use Rattle.intersections.specs.Lines.{inSpan}
 use Rattle.intersections.proofs.in_span.Statement.{statement}

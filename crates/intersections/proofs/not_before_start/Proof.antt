@@ -1,3 +1,4 @@
+-- `intersections::not_before_start` meets its contract. Assumes nothing.
 use Rattle.floats.proofs.Choice.{branches}
 use Rattle.intersections.proofs.not_before_start.Statement.{statement}
 use Rattle.intersections.proofs.not_before_start.Tie as tie

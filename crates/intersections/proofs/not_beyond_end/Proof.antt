@@ -1,3 +1,4 @@
+-- `intersections::not_beyond_end` meets its contract. Assumes nothing.
 use Rattle.floats.proofs.Choice.{branches}
 use Rattle.intersections.proofs.not_beyond_end.Statement.{statement}
 use Rattle.intersections.proofs.not_beyond_end.Tie as tie

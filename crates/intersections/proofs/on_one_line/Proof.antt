@@ -1,3 +1,4 @@
+-- `intersections::on_one_line` meets its contract. Assumes nothing.
 use Rattle.floats.proofs.Choice.{and-yes, and-no}
 use Rattle.intersections.proofs.on_one_line.Statement.{statement}
 use Rattle.intersections.proofs.on_one_line.Tie as tie

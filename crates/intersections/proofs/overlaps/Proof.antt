@@ -1,3 +1,4 @@
+-- `intersections::overlaps` meets its contract. Assumes nothing.
 use Rattle.floats.proofs.Choice.{branches}
 use Rattle.intersections.proofs.overlaps.Statement.{statement}
 use Rattle.intersections.proofs.overlaps.Tie as tie

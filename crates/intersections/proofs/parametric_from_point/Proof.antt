@@ -1,3 +1,4 @@
+-- `intersections::parametric_from_point` meets its contract. Assumes nothing.
 use Rattle.floats.proofs.Choice.{branches}
 use Rattle.intersections.specs.Points.{parameterOf}
 use Rattle.intersections.proofs.parametric_from_point.Statement.{statement}

@@ -1,3 +1,4 @@
+-- `intersections::place_along` meets its contract. Assumes nothing.
 use Rattle.intersections.proofs.place_along.Statement.{statement}
 use Rattle.intersections.proofs.place_along.Tie as tie
 

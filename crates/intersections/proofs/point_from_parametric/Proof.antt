@@ -1,3 +1,4 @@
+-- `intersections::point_from_parametric` meets its contract. Assumes nothing.
 use Rattle.intersections.specs.Points.{pointAt}
 use Rattle.intersections.proofs.point_from_parametric.Statement.{statement}
 use Rattle.intersections.proofs.point_from_parametric.Tie as tie

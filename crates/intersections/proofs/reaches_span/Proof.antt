@@ -1,3 +1,4 @@
+-- `intersections::reaches_span` meets its contract. Assumes nothing.
 use Rattle.floats.proofs.Choice.{branches}
 use Rattle.intersections.proofs.reaches_span.Statement.{statement}
 use Rattle.intersections.proofs.reaches_span.Tie as tie

@@ -8,4 +8,21 @@ use Rattle.jobs_main.proofs.job.Tie as tie
 pub job-spec : {M : Type 1} → statement M
 job-spec =
     tie.close
-    (tie.spec (λ c κs. search needs) (λ c κs. search needs) (λ c κs. search needs) (λ c κs. search needs) (λ c. sym (length-take-le _ _ (c .before .before .before .before .least .ensures))) (λ c. search needs) (λ c. sym (length-take-le _ _ (c .before .before .before .before .least2 .ensures))) (λ c. search needs) (λ c. sym (length-take-le _ _ (c .before .before .before .before .least3 .ensures))) (λ c. search needs) (λ c. sym (length-take-le _ _ (c .before .before .before .before .least4 .ensures))) (λ c κs. search needs) (λ c κs. search needs) (λ c. search needs) (λ c. search needs) (λ c. search needs) (λ c. search needs))
+    (tie.spec
+    (λ c κs. search needs)
+    (λ c κs. search needs)
+    (λ c κs. search needs)
+    (λ c κs. search needs)
+    (λ c. sym (length-take-le _ _ (c .before .before .before .before .least .ensures)))
+    (λ c. search needs)
+    (λ c. sym (length-take-le _ _ (c .before .before .before .before .least2 .ensures)))
+    (λ c. search needs)
+    (λ c. sym (length-take-le _ _ (c .before .before .before .before .least3 .ensures)))
+    (λ c. search needs)
+    (λ c. sym (length-take-le _ _ (c .before .before .before .before .least4 .ensures)))
+    (λ c κs. search needs)
+    (λ c κs. search needs)
+    (λ c. search needs)
+    (λ c. search needs)
+    (λ c. search needs)
+    (λ c. search needs))

@@ -1,3 +1,4 @@
+-- `joins::bulge_size` meets its contract. Assumes nothing.
 use Rattle.floats.proofs.Choice.{yes, no}
 use Rattle.joins.specs.Connector.{bulgeSize}
 use Rattle.joins.proofs.bulge_size.Statement.{statement}

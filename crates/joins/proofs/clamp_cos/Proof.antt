@@ -1,3 +1,4 @@
+-- `joins::clamp_cos` meets its contract. Assumes nothing.
 use Rattle.floats.proofs.Same.{choices}
 use Rattle.joins.specs.Connector.{clampCos}
 use Rattle.joins.proofs.clamp_cos.Statement.{statement}

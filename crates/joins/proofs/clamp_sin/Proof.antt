@@ -1,3 +1,4 @@
+-- `joins::clamp_sin` meets its contract. Assumes nothing.
 use Rattle.floats.proofs.Same.{choices}
 use Rattle.joins.specs.Connector.{clampSin}
 use Rattle.joins.proofs.clamp_sin.Statement.{statement}

@@ -23,5 +23,17 @@ connector-bulge-spec =
     tie.close
     (tie.spec
     (λ c κs. tt) (λ c κs. tt) (λ c κs. tt) (λ c κs. tt) (λ c κs. tt) (λ c κs. tt) normalize-by-requires normalize-by-requires-2 (λ c κs. tt) (λ c κs. tt) (λ c κs. tt) (λ c κs. tt) (λ c κs. tt) (λ c κs. tt)
-    (λ c. yes _ _ _ (c .if1 .taken) (simp (c .before .bulge-size .ensures, c .before .before .clamp-sin .ensures, c .before .before .before .abs2 .ensures, c .before .before .before .before .perp-dot .ensures, c .before .before .before .before .before .clamp-cos .ensures, c .before .before .before .before .before .before .dot .ensures, c .before .before .before .before .before .before .before .normalize-by2 .ensures, c .before .before .before .before .before .before .before .before .normalize-by .ensures, c .before .before .before .before .before .before .before .before .before .before .before .before .before .sub2 .ensures, c .before .before .before .before .before .before .before .before .before .before .before .before .before .before .sub .ensures)))
+    (λ c. yes _ _ _ (c .if1 .taken)
+    (simp (
+      c .before .bulge-size .ensures,
+      c .before .before .clamp-sin .ensures,
+      c .before .before .before .abs2 .ensures,
+      c .before .before .before .before .perp-dot .ensures,
+      c .before .before .before .before .before .clamp-cos .ensures,
+      c .before .before .before .before .before .before .dot .ensures,
+      c .before .before .before .before .before .before .before .normalize-by2 .ensures,
+      c .before .before .before .before .before .before .before .before .normalize-by .ensures,
+      c .before .before .before .before .before .before .before .before .before .before .before .before .before .sub2 .ensures,
+      c .before .before .before .before .before .before .before .before .before .before .before .before .before .before .sub .ensures,
+    )))
     (λ c. no _ _ _ (c .if1 .left) (cc)))

@@ -1,3 +1,4 @@
+-- `joins::either_at_most` meets its contract. Assumes nothing.
 use Rattle.floats.proofs.Choice.{branches}
 use Rattle.joins.proofs.either_at_most.Statement.{statement}
 use Rattle.joins.proofs.either_at_most.Tie as tie

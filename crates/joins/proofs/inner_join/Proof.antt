@@ -1,11 +1,12 @@
+-- `joins::inner_join` meets its contract. Assumes nothing.
 use mathlib.Core.Path.{subst}
 use borrow.Author.Needs.{needs}
 use Rattle.segments.specs.declared.RawOffsetSeg.the-variants.{Arc}
-use Rattle.segments.specs.Steps.{fullSeg}
+use Rattle.segments.specs.InnerSteps.{fullSeg}
 use Rattle.meetings.specs.declared.SeenArc.{SeenArc}
-use Rattle.meetings.specs.Steps.{angled}
+use Rattle.meetings.specs.InnerSteps.{angled}
 use Rattle.joins.specs.Join.{innerJoin}
-use Rattle.joins.specs.Steps.{Joins}
+use Rattle.joins.specs.InnerSteps.{Joins}
 use Rattle.joins.proofs.Seen.{unseen-joins}
 use Rattle.joins.proofs.inner_join.Statement.{statement}
 use Rattle.joins.proofs.inner_join.Tie as tie
@@ -23,4 +24,4 @@ inner-join-spec =
     (λ c. search needs) (λ c κs. tt) (λ c. search needs) (λ c κs. tt) (λ c κs. tt) (λ c. search needs) (λ c κs. tt) (λ c κs. tt) (λ c κs. tt)
     (λ c. rw (c .before .before .current .given .1) (c .join-from-line .ensures))
     returns-2
-    (λ c. rw (c .before .before .before .before .current3 .given .1) (unseen-joins _ (c .unseen .ensures) (simp (c .before .inner-gap .ensures, c .before .before .start .ensures)))))
+    (λ c. rw (c .before .before .before .before .current3 .given .1) (unseen-joins _ (c .unseen .ensures) (simp (c .before .collapsed-side .ensures, c .before .before .start .ensures)))))

@@ -1,10 +1,11 @@
+-- `joins::join_from_arc` meets its contract. Assumes nothing.
 use mathlib.Core.Path.{ap, _∙_}
 use borrow.Author.Needs.{needs}
 use Rattle.segments.specs.declared.RawOffsetArc.{RawOffsetArc}
 use lib.Ieee.{Float}
 use Rattle.meetings.specs.Meetings.{arcArcMeeting}
-use Rattle.meetings.specs.Steps.{angled}
-use Rattle.joins.specs.Steps.{seenArc}
+use Rattle.meetings.specs.InnerSteps.{angled}
+use Rattle.joins.specs.InnerSteps.{seenArc}
 use Rattle.joins.proofs.Seen.{unseen-joins, arc-joins}
 use Rattle.joins.proofs.join_from_arc.Statement.{statement}
 use Rattle.joins.proofs.join_from_arc.Tie as tie
@@ -21,7 +22,7 @@ returns-2 c =
     (arc-joins arc (λ (x : RawOffsetArc). arcArcMeeting (angled (start .args .current)) x (start .args .shared-source-vertex) (start .args .eps)) _ unknown (c .before .arc-arc-meeting .ensures) (c .trimmed-or-gap2 .ensures))
 
 returns-3 : tie.Need-returns-3
-returns-3 c = rw (c .before .before .before .next3 .given .1) (unseen-joins _ (c .unseen2 .ensures) (c .before .inner-gap .ensures))
+returns-3 c = rw (c .before .before .before .next3 .given .1) (unseen-joins _ (c .unseen2 .ensures) (c .before .collapsed-side .ensures))
 
 pub join-from-arc-spec : {M : Type 1} → statement M
 join-from-arc-spec =

@@ -1,9 +1,10 @@
+-- `joins::join_from_line` meets its contract. Assumes nothing.
 use mathlib.Core.Path.{ap, _∙_}
 use borrow.Author.Needs.{needs}
 use Rattle.segments.specs.declared.RawOffsetArc.{RawOffsetArc}
 use lib.Ieee.{Float}
 use Rattle.meetings.specs.Meetings.{lineArcMeeting}
-use Rattle.joins.specs.Steps.{seenArc}
+use Rattle.joins.specs.InnerSteps.{seenArc}
 use Rattle.joins.proofs.Seen.{unseen-joins, arc-joins}
 use Rattle.joins.proofs.join_from_line.Statement.{statement}
 use Rattle.joins.proofs.join_from_line.Tie as tie
@@ -20,7 +21,7 @@ returns-2 c =
     (arc-joins arc (λ (x : RawOffsetArc). lineArcMeeting (start .args .current) x (start .args .shared-source-vertex) (start .args .eps)) _ unknown (c .before .line-arc-meeting .ensures) (c .trimmed-or-gap2 .ensures))
 
 returns-3 : tie.Need-returns-3
-returns-3 c = rw (c .before .before .before .next3 .given .1) (unseen-joins _ (c .unseen2 .ensures) (c .before .inner-gap .ensures))
+returns-3 c = rw (c .before .before .before .next3 .given .1) (unseen-joins _ (c .unseen2 .ensures) (c .before .collapsed-side .ensures))
 
 pub join-from-line-spec : {M : Type 1} → statement M
 join-from-line-spec =

@@ -1,3 +1,4 @@
+-- `joins::trimmed_or_gap` meets its contract. Assumes nothing.
 use borrow.Author.Needs.{needs}
 use Rattle.joins.proofs.trimmed_or_gap.Statement.{statement}
 use Rattle.joins.proofs.trimmed_or_gap.Tie as tie
@@ -8,5 +9,5 @@ trimmed-or-gap-spec =
     (tie.spec
     (λ c. search needs) (λ c κs. tt) (λ c. search needs) (λ c κs. tt) (λ c. search needs) (λ c κs. tt)
     (λ c. rw (c .before .before .met .given .1) (c .trimmed .ensures))
-    (λ c. rw (c .before .enum-told .given .1) (c .inner-gap .ensures))
-    (λ c. rw (c .before .enum-told2 .given .1) (c .inner-gap2 .ensures)))
+    (λ c. rw (c .before .enum-told .given .1) (c .straight .ensures))
+    (λ c. rw (c .before .enum-told2 .given .1) (c .straight2 .ensures)))

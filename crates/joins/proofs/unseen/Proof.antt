@@ -1,3 +1,4 @@
+-- `joins::unseen` meets its contract. Assumes nothing.
 use Rattle.joins.proofs.unseen.Statement.{statement}
 use Rattle.joins.proofs.unseen.Tie as tie
 

@@ -1,3 +1,4 @@
+-- `layers::layers_angle` meets its contract. Assumes nothing.
 use borrow.Author.Needs.{needs}
 use Rattle.layers.proofs.layers_angle.Statement.{statement}
 use Rattle.layers.proofs.layers_angle.Tie as tie

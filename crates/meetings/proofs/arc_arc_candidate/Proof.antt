@@ -1,6 +1,7 @@
+-- `meetings::arc_arc_candidate` meets its contract. Assumes nothing.
 use Rattle.meetings.specs.Params.{usableArcParam}
 use Rattle.meetings.specs.Meetings.{arcArcCandidate}
-use Rattle.meetings.specs.Steps.{arcParamAt}
+use Rattle.meetings.specs.InnerSteps.{arcParamAt}
 use Rattle.meetings.proofs.Starts.{remembered}
 use Rattle.meetings.proofs.arc_arc_candidate.Statement.{statement}
 use Rattle.meetings.proofs.arc_arc_candidate.Tie as tie

@@ -1,3 +1,4 @@
+-- `meetings::clamp_param` meets its contract. Assumes nothing.
 use mathlib.Core.Path.{refl}
 use Rattle.floats.proofs.Choice.{yes, no}
 use Rattle.meetings.specs.Meetings.{clampParam}

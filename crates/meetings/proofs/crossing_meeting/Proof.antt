@@ -1,3 +1,4 @@
+-- `meetings::crossing_meeting` meets its contract. Assumes nothing.
 use mathlib.Core.Path.{refl}
 use Rattle.meetings.proofs.crossing_meeting.Statement.{statement}
 use Rattle.meetings.proofs.crossing_meeting.Tie as tie

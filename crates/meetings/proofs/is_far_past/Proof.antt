@@ -1,3 +1,4 @@
+-- `meetings::is_far_past` meets its contract. Assumes nothing.
 use mathlib.Core.Path.{refl}
 use Rattle.meetings.specs.Params.{farPast}
 use Rattle.meetings.proofs.is_far_past.Statement.{statement}

@@ -1,5 +1,6 @@
+-- `meetings::not_seen` meets its contract. Assumes nothing.
 use mathlib.Core.Path.{refl}
-use Rattle.meetings.specs.Steps.{notSeen}
+use Rattle.meetings.specs.InnerSteps.{notSeen}
 use Rattle.meetings.proofs.not_seen.Statement.{statement}
 use Rattle.meetings.proofs.not_seen.Tie as tie
 

@@ -1,3 +1,4 @@
+-- `meetings::snapped_param` meets its contract. Assumes nothing.
 use mathlib.Core.Path.{refl}
 use Rattle.floats.proofs.Choice.{yes, no, told}
 use Rattle.meetings.specs.Params.{snappedParam}

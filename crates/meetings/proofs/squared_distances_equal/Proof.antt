@@ -1,3 +1,4 @@
+-- `meetings::squared_distances_equal` meets its contract. Assumes nothing.
 use mathlib.Core.Path.{refl}
 use Rattle.floats.proofs.Choice.{or-yes, or-no}
 use Rattle.meetings.specs.Params.{squaredDistancesEqual}

@@ -1,3 +1,4 @@
+-- `meetings::swept_param` meets its contract. Assumes nothing.
 use mathlib.Core.Path.{refl}
 use Rattle.floats.proofs.Choice.{yes, no}
 use Rattle.meetings.specs.Params.{sweptParam}
@@ -6,4 +7,5 @@ use Rattle.meetings.proofs.swept_param.Tie as tie
 
 pub swept-param-spec : {M : Type 1} → statement M
 unfolding sweptParam
-swept-param-spec = tie.close (tie.spec (λ c κs. tt) (λ c. rw (← c .before .before .before .abs .ensures) (yes _ _ _ (c .before .before .if1 .taken) (yes _ _ _ (c .if2 .taken) refl))) (λ c. rw (← c .before .before .before .abs .ensures) (yes _ _ _ (c .before .before .if1 .taken) (no _ _ _ (c .if2 .left) refl))) (λ c. rw (← c .before .abs .ensures) (no _ _ _ (c .if1 .left) refl)))
+swept-param-spec = tie.close (tie.spec (λ c κs. tt) (λ c. rw (← c .before .before .before .abs .ensures) (yes _ _ _ (c .before .before .if1 .taken) (yes _ _ _ (c .if2 .taken) refl)))
+    (λ c. rw (← c .before .before .before .abs .ensures) (yes _ _ _ (c .before .before .if1 .taken) (no _ _ _ (c .if2 .left) refl))) (λ c. rw (← c .before .abs .ensures) (no _ _ _ (c .if1 .left) refl)))

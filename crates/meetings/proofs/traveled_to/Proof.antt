@@ -1,3 +1,4 @@
+-- `meetings::traveled_to` meets its contract. Assumes nothing.
 use Rattle.floats.proofs.Choice.{yes, no}
 use Rattle.meetings.specs.Params.{traveled}
 use Rattle.meetings.proofs.traveled_to.Statement.{statement}

@@ -1,5 +1,6 @@
+-- `meetings::with_arc_param` meets its contract. Assumes nothing.
 use Rattle.meetings.specs.Params.{usableArcParam}
-use Rattle.meetings.specs.Steps.{arcParamAt}
+use Rattle.meetings.specs.InnerSteps.{arcParamAt}
 use Rattle.meetings.proofs.Starts.{remembered}
 use Rattle.meetings.proofs.with_arc_param.Statement.{statement}
 use Rattle.meetings.proofs.with_arc_param.Tie as tie

@@ -3,10 +3,11 @@ use mathlib.Core.Path.{_≡_, _∙_}
 use Prim.Native.Nat.{_-_, _≤_}
 use native.Mathlib.Omega.{arith}
 use borrow.Author.Needs.{needs}
-use Rattle.refusals.specs.Source.{verticesOf, segmentsOf}
+use Rattle.source.specs.Source.{verticesOf, segmentsOf}
 use Rattle.refusals.specs.Limits.{repeatTests, firstOf}
 use Rattle.refusals.proofs.First.{rest, first-skip, first-step, first-found, first-end}
-use Rattle.refusals.proofs.Segments.{segments-most, neighbour-test, segment-test, no-more-segments}
+use Rattle.source.proofs.Segments.{segments-most}
+use Rattle.refusals.proofs.Segments.{neighbour-test, segment-test, no-more-segments}
 use Rattle.refusals.proofs.first_repeated.Statement.{statement}
 use Rattle.refusals.proofs.first_repeated.Tie as tie
 
@@ -37,7 +38,9 @@ cast : tie.Need-cast-t12 Inv-loop μ-loop
 cast c = omega arith
 
 returns : tie.Need-returns Inv-loop μ-loop
-returns c = first-found _ _ (segment-test _ _ (c .before .before .before .before .before .before .before .before .before .before .pre .1 .1) (c .before .before .before .before .before .before .before .before .before .before .pre .0) _ _ _ (rw (c .before .before .before .before .before .before .loop .inv .0) at (c .before .before .before .before .before .loop-test .taken)) ∙ (cc)) ∙ c .before .before .before .before .before .before .loop .inv .2
+returns c = first-found _ _ (segment-test _ _ (c .before .before .before .before .before .before .before .before .before .before .pre .1 .1)
+    (c .before .before .before .before .before .before .before .before .before .before .pre .0) _ _ _
+    (rw (c .before .before .before .before .before .before .loop .inv .0) at (c .before .before .before .before .before .loop-test .taken)) ∙ (cc)) ∙ c .before .before .before .before .before .before .loop .inv .2
 
 add-earlier : tie.Need-add-earlier Inv-loop μ-loop
 add-earlier c = search needs
@@ -46,7 +49,14 @@ loop-less : tie.Need-loop-less Inv-loop μ-loop
 loop-less c = omega arith
 
 loop-again : tie.Need-loop-again Inv-loop μ-loop
-loop-again c = (c .before .before .before .before .before .before .loop .inv .0, search needs, first-step _ _ (segment-test _ _ (c .before .before .before .before .before .before .before .before .before .before .pre .1 .1) (c .before .before .before .before .before .before .before .before .before .before .pre .0) _ _ _ (rw (c .before .before .before .before .before .before .loop .inv .0) at (c .before .before .before .before .before .loop-test .taken)) ∙ (cc)) ∙ c .before .before .before .before .before .before .loop .inv .2)
+loop-again c = (
+  c .before .before .before .before .before .before .loop .inv .0,
+  search needs,
+  first-step _ _
+      (segment-test _ _ (c .before .before .before .before .before .before .before .before .before .before .pre .1 .1)
+      (c .before .before .before .before .before .before .before .before .before .before .pre .0) _ _ _
+      (rw (c .before .before .before .before .before .before .loop .inv .0) at (c .before .before .before .before .before .loop-test .taken)) ∙ (cc)) ∙ c .before .before .before .before .before .before .loop .inv .2,
+)
 
 returns-2 : tie.Need-returns-2 Inv-loop μ-loop
 returns-2 c = first-end _ _ (no-more-segments _ _ (c .before .before .before .before .before .pre .1 .1) (c .before .before .before .before .before .pre .0) _ _ _ (rw (c .before .loop .inv .0) at (c .loop-test .left))) ∙ c .before .loop .inv .2

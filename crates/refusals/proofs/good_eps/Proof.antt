@@ -1,3 +1,4 @@
+-- `refusals::good_eps` meets its contract. Assumes nothing.
 use Rattle.refusals.specs.Limits.{goodEps}
 use Rattle.refusals.proofs.good_eps.Statement.{statement}
 use Rattle.refusals.proofs.good_eps.Tie as tie

@@ -1,3 +1,4 @@
+-- `refusals::good_number` meets its contract. Assumes nothing.
 use Rattle.floats.proofs.Same.{choices}
 use Rattle.refusals.specs.Limits.{inside}
 use Rattle.refusals.proofs.good_number.Statement.{statement}

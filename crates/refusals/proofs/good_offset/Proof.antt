@@ -1,3 +1,4 @@
+-- `refusals::good_offset` meets its contract. Assumes nothing.
 use Rattle.refusals.specs.Limits.{goodOffset}
 use Rattle.refusals.proofs.good_offset.Statement.{statement}
 use Rattle.refusals.proofs.good_offset.Tie as tie

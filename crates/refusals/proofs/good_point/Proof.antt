@@ -1,3 +1,4 @@
+-- `refusals::good_point` meets its contract. Assumes nothing.
 use Rattle.floats.proofs.Same.{choices}
 use Rattle.refusals.proofs.good_point.Statement.{statement}
 use Rattle.refusals.proofs.good_point.Tie as tie

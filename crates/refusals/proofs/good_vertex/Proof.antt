@@ -1,3 +1,4 @@
+-- `refusals::good_vertex` meets its contract. Assumes nothing.
 use Rattle.floats.proofs.Same.{choices}
 use Rattle.refusals.specs.Limits.{goodVertex}
 use Rattle.refusals.proofs.good_vertex.Statement.{statement}

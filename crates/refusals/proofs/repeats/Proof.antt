@@ -1,3 +1,4 @@
+-- `refusals::repeats` meets its contract. Assumes nothing.
 use Rattle.refusals.specs.Limits.{repeats}
 use Rattle.refusals.proofs.repeats.Statement.{statement}
 use Rattle.refusals.proofs.repeats.Tie as tie

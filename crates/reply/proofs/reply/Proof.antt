@@ -18,13 +18,19 @@ slice-aggregate-work : tie.Need-slice-aggregate-work
 slice-aggregate-work c = sym (length-take-le _ _ (array-share-prefix-source (c .before)))
 
 work-requires : tie.Need-work-requires
-work-requires c κs = omega (arith, decoded-room _ _ (c .before .before .before .before .before .decode .ensures) (c .before .before .before .job .given .1), slice-aggregate-work (c .before))
+work-requires c κs =
+    let told = c .before .before .before in
+    omega (arith, decoded-room _ _ (told .before .before .decode .ensures) (told .job .given .1), slice-aggregate-work (c .before))
 
 returns : tie.Need-returns
-returns c = rw (refused _ _ (c .before .before .before .before .decode .ensures) (c .before .before .enum-told .given .1)) (c .put-refusal .ensures)
+returns c =
+    let told = c .before .before .before .before in
+    rw (refused _ _ (told .before .before .decode .ensures) (told .enum-told .given .1)) (rw (c .before .before .before .number .ensures, c .before .before .place .ensures) at (c .put-refusal .ensures))
 
 returns-2 : tie.Need-returns-2
-returns-2 c = rw (worked _ _ (c .before .before .before .before .before .before .decode .ensures) (c .before .before .before .before .job .given .1)) (c .work .ensures)
+returns-2 c =
+    let told = c .before .before .before .before in
+    rw (worked _ _ (told .before .before .decode .ensures) (told .job .given .1)) (c .work .ensures)
 
 pub reply-spec : {M : Type 1} → statement M
 reply-spec =
@@ -32,6 +38,8 @@ reply-spec =
     (tie.spec
     (λ c κs. search needs)
     (λ c. search needs)
+    (λ c κs. search needs)
+    (λ c κs. search needs)
     (λ c κs. search needs)
     (λ c. search needs)
     mul-source

@@ -6,12 +6,17 @@ use Rattle.reply.proofs.work.Tie as tie
 
 returns : tie.Need-returns
 returns c =
-    let start = c .before .before .before .before .before .before .before .before .before .before .before .before .before .before .before .before in
-    rw (done-text _ _ _ _ (c .before .before .before .before .before .before .before .before .before .before .before .create-raw-offset .ensures) (c .before .before .before .before .before .before .before .number .ensures) (start .pre) (c .before .before .before .before .before .before .if1 .taken) (c .before .before .before .before .before .result .ensures)) (c .put-answer .ensures)
+    let numbered = c .before .before .before .before .before .before .before in
+    let call = numbered .before .before .before .before in
+    let answered = c .before .before .before .before .before in
+    rw (done-text _ _ _ (call .create-raw-offset .ensures) (numbered .number .ensures) (call .before .before .before .before .before .pre) (answered .before .if1 .taken) (answered .result .ensures))
+    (c .put-answer .ensures)
 
 returns-2 : tie.Need-returns-2
 returns-2 c =
-    rw (refusal-text _ _ _ _ (c .before .before .before .before .before .before .before .before .create-raw-offset .ensures) (c .before .before .before .before .number .ensures) (c .before .before .before .if1 .left) (c .before .before .place .ensures)) (c .put-refusal .ensures)
+    let numbered = c .before .before .before .before in
+    let call = numbered .before .before .before .before in
+    rw (refusal-text _ _ _ (call .create-raw-offset .ensures) (numbered .number .ensures) (c .before .before .before .if1 .left) (c .before .before .place .ensures)) (c .put-refusal .ensures)
 
 pub work-spec : {M : Type 1} → statement M
 work-spec =

@@ -1,3 +1,4 @@
+-- `segments::arc_center` meets its contract. Assumes nothing.
 use Rattle.floats.proofs.Choice.{yes, no}
 use Rattle.segments.specs.Vertex.{arcCenter}
 use Rattle.segments.proofs.arc_center.Statement.{statement}

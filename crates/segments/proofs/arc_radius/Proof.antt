@@ -1,3 +1,4 @@
+-- `segments::arc_radius` meets its contract. Assumes nothing.
 use Rattle.segments.specs.Vertex.{arcRadius}
 use Rattle.segments.proofs.arc_radius.Statement.{statement}
 use Rattle.segments.proofs.arc_radius.Tie as tie

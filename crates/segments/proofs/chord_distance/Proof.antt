@@ -1,3 +1,4 @@
+-- `segments::chord_distance` meets its contract. Assumes nothing.
 use Rattle.segments.specs.Vertex.{chordDistance}
 use Rattle.segments.proofs.chord_distance.Statement.{statement}
 use Rattle.segments.proofs.chord_distance.Tie as tie

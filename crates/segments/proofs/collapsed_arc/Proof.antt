@@ -1,3 +1,4 @@
+-- `segments::collapsed_arc` meets its contract. Assumes nothing.
 use Rattle.segments.specs.Segment.{collapsedArc}
 use Rattle.segments.proofs.collapsed_arc.Statement.{statement}
 use Rattle.segments.proofs.collapsed_arc.Tie as tie

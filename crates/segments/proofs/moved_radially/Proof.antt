@@ -1,3 +1,4 @@
+-- `segments::moved_radially` meets its contract. Assumes nothing.
 use Rattle.segments.specs.Segment.{moved}
 use Rattle.segments.proofs.moved_radially.Statement.{statement}
 use Rattle.segments.proofs.moved_radially.Tie as tie

@@ -1,4 +1,5 @@
-use Rattle.segments.specs.Steps.{sweptArc}
+-- `segments::offset_arc` meets its contract. Assumes nothing.
+use Rattle.segments.specs.InnerSteps.{sweptArc}
 use Rattle.segments.proofs.offset_arc.Statement.{statement}
 use Rattle.segments.proofs.offset_arc.Tie as tie
 

@@ -1,3 +1,4 @@
+-- `segments::offset_curve` meets its contract. Assumes nothing.
 use mathlib.Core.Path.{refl}
 use Rattle.floats.proofs.Choice.{yes, no}
 use Rattle.segments.specs.Segment.{offsetCurve}

@@ -1,3 +1,4 @@
+-- `segments::offset_radius` meets its contract. Assumes nothing.
 use Rattle.floats.proofs.Same.{choices}
 use Rattle.segments.specs.Segment.{offsetRadius}
 use Rattle.segments.proofs.offset_radius.Statement.{statement}

@@ -1,3 +1,4 @@
+-- `segments::tangent_of` meets its contract. Assumes nothing.
 use Rattle.floats.proofs.Choice.{yes, no}
 use Rattle.segments.specs.Segment.{tangent}
 use Rattle.segments.proofs.tangent_of.Statement.{statement}

@@ -30,7 +30,8 @@ loop-again c =
     let at = c .before .before .before .before .before .before .before .before .before .before .before .loop in
     let n = length-lines (a .count) (a .closed) (a .vertices .now) (a .flags .now) (at .i) in
     let flag = getD (a .flags .now) (at .i) 0 in
-    let m : c .before .before .before .before .before .before .before .mark-of .result ≡ markOf (not (a .closed) and eqb (at .i + 1) (a .count)) flag = c .before .before .before .before .before .before .before .mark-of .ensures ∙ ap (λ (b : Bool). markOf b flag) (c .before .before .before .before .before .before .before .before .before .is-last .ensures) in
+    let m : c .before .before .before .before .before .before .before .mark-of .result ≡ markOf (not (a .closed) and eqb (at .i + 1) (a .count)) flag =
+    c .before .before .before .before .before .before .before .mark-of .ensures ∙ ap (λ (b : Bool). markOf b flag) (c .before .before .before .before .before .before .before .before .before .is-last .ensures) in
     writing-turn (at .inv) (c .before .before .before .before .before .before .before .before .before .before .loop-test .taken) (lineAt (a .count) (a .closed) (a .vertices .now) (a .flags .now) (at .i)) (a .at + 53 * at .i) (omega arith) refl
     (rw (← m) (c .before .before .put-line .ensures))
 

@@ -1,3 +1,4 @@
+-- `segments::CarriedArc::full` meets its contract. Assumes nothing.
 use Rattle.segments.proofs.CarriedArc.full.Statement.{statement}
 use Rattle.segments.proofs.CarriedArc.full.Tie as tie
 

@@ -1,3 +1,4 @@
+-- `segments::CarriedArc::tangent_at` meets its contract. Assumes nothing.
 use Rattle.segments.specs.Segment.{tangentAt}
 use Rattle.segments.proofs.CarriedArc.tangent_at.Statement.{statement}
 use Rattle.segments.proofs.CarriedArc.tangent_at.Tie as tie

@@ -1,3 +1,4 @@
+-- `segments::CarriedSeg::anew` meets its contract. Assumes nothing.
 use Rattle.segments.proofs.CarriedSeg.anew.Statement.{statement}
 use Rattle.segments.proofs.CarriedSeg.anew.Tie as tie
 

@@ -1,3 +1,4 @@
+-- `segments::CarriedSeg::full` meets its contract. Assumes nothing.
 use borrow.Author.Needs.{needs}
 use mathlib.Core.Path.{refl, ap}
 use Rattle.segments.specs.declared.RawOffsetSeg.the-variants.{Arc}

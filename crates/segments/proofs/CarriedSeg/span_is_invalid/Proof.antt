@@ -1,3 +1,4 @@
+-- `segments::CarriedSeg::span_is_invalid` meets its contract. Assumes nothing.
 use Rattle.floats.proofs.Choice.{branches}
 use Rattle.segments.proofs.CarriedSeg.span_is_invalid.Statement.{statement}
 use Rattle.segments.proofs.CarriedSeg.span_is_invalid.Tie as tie

@@ -1,3 +1,4 @@
+-- `segments::PlineVertex::bulge_is_neg` meets its contract. Assumes nothing.
 use mathlib.Core.Path.{refl}
 use Rattle.segments.specs.Vertex.{bulgeIsNeg}
 use Rattle.segments.proofs.PlineVertex.bulge_is_neg.Statement.{statement}

@@ -1,3 +1,4 @@
+-- `segments::PlineVertex::bulge_is_zero` meets its contract. Assumes nothing.
 use Rattle.segments.specs.Vertex.{bulgeIsZero}
 use Rattle.segments.proofs.PlineVertex.bulge_is_zero.Statement.{statement}
 use Rattle.segments.proofs.PlineVertex.bulge_is_zero.Tie as tie

@@ -1,3 +1,4 @@
+-- `vectors::Vector2::dot` meets its contract. Assumes nothing.
 use mathlib.Core.Path.{refl}
 use Rattle.vectors.specs.Plane.{dot}
 use Rattle.vectors.proofs.Vector2.dot.Statement.{statement}

@@ -1,3 +1,4 @@
+-- `vectors::Vector2::fuzzy_eq_eps` meets its contract. Assumes nothing.
 use Rattle.floats.proofs.Choice.{branches}
 use Rattle.vectors.specs.Plane.{near}
 use Rattle.vectors.proofs.Vector2.fuzzy_eq_eps.Statement.{statement}

@@ -1,3 +1,4 @@
+-- `vectors::Vector2::length` meets its contract. Assumes nothing.
 use Rattle.vectors.specs.Plane.{lengthOf}
 use Rattle.vectors.proofs.Vector2.length.Statement.{statement}
 use Rattle.vectors.proofs.Vector2.length.Tie as tie

@@ -1,3 +1,4 @@
+-- `vectors::Vector2::length_squared` meets its contract. Assumes nothing.
 use mathlib.Core.Path.{refl}
 use Rattle.vectors.specs.Plane.{lengthSquared}
 use Rattle.vectors.proofs.Vector2.length_squared.Statement.{statement}

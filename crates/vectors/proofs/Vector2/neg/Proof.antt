@@ -1,3 +1,4 @@
+-- `vectors::Vector2::neg` meets its contract. Assumes nothing.
 use mathlib.Core.Path.{refl}
 use Rattle.vectors.specs.Plane.{negated}
 use Rattle.vectors.proofs.Vector2.neg.Statement.{statement}

@@ -1,3 +1,4 @@
+-- `vectors::Vector2::perp_dot` meets its contract. Assumes nothing.
 use mathlib.Core.Path.{refl}
 use Rattle.vectors.specs.Plane.{cross}
 use Rattle.vectors.proofs.Vector2.perp_dot.Statement.{statement}

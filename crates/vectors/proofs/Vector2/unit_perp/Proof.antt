@@ -1,3 +1,4 @@
+-- `vectors::Vector2::unit_perp` meets its contract. Assumes nothing.
 use Rattle.vectors.specs.Plane.{unitPerp}
 use Rattle.vectors.proofs.Vector2.unit_perp.Statement.{statement}
 use Rattle.vectors.proofs.Vector2.unit_perp.Tie as tie

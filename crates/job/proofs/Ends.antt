@@ -1,0 +1,137 @@
+-- What the code's tests and calls show of the job, from each test on. Assumes nothing.
+use mathlib.Core.Path.{_≡_, refl, sym, ap, _∙_}
+use mathlib.Core.List.{List}
+use mathlib.Core.Bool.{Bool, true, false, not}
+use Prim.Native.Nat.{ℕ, _*_, _/_, _%_, _≤_, _<_}
+use native.Mathlib.Omega.{arith}
+use borrow.Author.Tests.{not-false}
+use lib.Dec.{leb}
+use lib.ListN.{length}
+use lib.Ieee.{Float, eq}
+use Rattle.floats.specs.Binary64.{zero}
+use Rattle.floats.specs.Choice.{when_give_else_, _and_}
+use Rattle.floats.proofs.Choice.{yes, no}
+use Rattle.segments.specs.declared.PlineVertex.{PlineVertex}
+use Rattle.segments.specs.declared.Settings.{Settings}
+use Rattle.source.specs.Source.{verticesOf, segmentsOf}
+use Rattle.source.proofs.Source.{length-vertices}
+use Rattle.source.proofs.Segments.{segments-none, segments-most}
+use Rattle.refusals.specs.declared.Refusal.the-variants.{Ragged, TooMany, BadNumber, NoRoom, Repeated, NotFinite}
+use Rattle.refusals.specs.declared.Place.the-variants.{Nowhere, At}
+use Rattle.refusals.specs.Limits.{numberTests, repeatTests, firstOf}
+use Rattle.refusals.proofs.NumberRow.{number-row, number-nowhere}
+use Rattle.moves.specs.declared.RawOffsetResult.{RawOffsetResult}
+use Rattle.moves.specs.Drawing.{Drawing, nothing, allFinite, emptyResult, resultOf}
+use Rattle.walk.specs.Walk.{drawingOf, copied}
+use Rattle.sheet.specs.declared.Built.{Built}
+use Rattle.sheet.specs.declared.Built.the-variants as Built
+use Rattle.sheet.specs.Buffers.{Buffers, flat, shown}
+use Rattle.sheet.specs.InnerSteps.{Ready, Finished, finished, builtOf}
+use Rattle.job.specs.declared.RawOffsetAnswer.{RawOffsetAnswer}
+use Rattle.job.specs.declared.RawOffsetAnswer.the-variants.{Done, Refused}
+use Rattle.job.specs.Verdict.{Verdict, refused, drawn, roomFor, finiteVerdict, distinctVerdict, roomyVerdict}
+use Rattle.job.specs.Job.{Outcome, ending, afterRefusal, placed, hasRoom, jobOf}
+use Rattle.job.specs.Rows.{Job, Numbers}
+use Rattle.job.specs.InnerSteps.{Counted, fromRoom}
+use Rattle.job.proofs.Ways.{found, not-found, unchanged, all-fit, ragged, many, bad, few, in-threes, two-way, ends}
+
+-- ---- the first three tests
+
+-- nothing in no room is what stood there
+nothing-shown : (old : Buffers) → shown 0 nothing old ≡ old
+unfolding shown flat
+nothing-shown old = refl
+
+module _ (s : List Float) (closed : Bool) (σ : Settings) (old : Buffers) where
+  abbrev job : Job
+  job = record { source = s; closed = closed; settings = σ; buffers = old }
+
+  pub ragged-ends : (length s % 3 ≡ 0 → ⊥) → ending (Refused Ragged) old ≡ jobOf s closed σ old
+  ragged-ends h = unchanged Ragged _ old (λ e. omega arith) ∙ ends job (ragged h)
+
+  pub many-ends : length s % 3 ≡ 0 → 4096 < length s / 3 → ending (Refused TooMany) old ≡ jobOf s closed σ old
+  many-ends h m = unchanged TooMany _ old (λ e. omega arith) ∙ ends job (many (record { threes = h; many = m }))
+
+  module _ (h : length s % 3 ≡ 0) (most : length s / 3 ≤ 4096) where
+    pub bad-ends : (k : ℕ) → firstOf (numberTests (verticesOf s) σ) ≡ At k → ending (Refused (BadNumber k)) old ≡ jobOf s closed σ old
+    bad-ends k e =
+        unchanged (BadNumber k) _ old (λ e. omega arith) ∙ ends job (bad k (record { whole = record { threes = h; few = most }; bad = number-row _ _ k .0 e }))
+
+    good : firstOf (numberTests (verticesOf s) σ) ≡ Nowhere → Numbers job
+    good e = record { whole = record { threes = h; few = most }; good = number-nowhere _ _ .0 e }
+
+    pub few-ends : firstOf (numberTests (verticesOf s) σ) ≡ Nowhere → length s / 3 < 2 → ending (Done emptyResult) old ≡ jobOf s closed σ old
+    few-ends e t = ap (ending (Done emptyResult)) (sym (rw (segments-none closed (length s / 3) t) (nothing-shown old))) ∙ ends job (few (good e) t)
+
+    pub good-ends : firstOf (numberTests (verticesOf s) σ) ≡ Nowhere → 2 ≤ length s / 3 → {o : Outcome}
+        → o ≡ fromRoom (length s / 3) s closed σ old → o ≡ jobOf s closed σ old
+    unfolding roomFor
+    good-ends e t q = q ∙ rw (length-vertices s) at (in-threes job h (two-way job (good e) t refl))
+
+-- ---- from No. 4 on. The code has n segments, and the answer t of its test of the room.
+
+module _ (s : List Float) (closed : Bool) (v : ℕ) (old : Buffers) (n : ℕ) (t : Bool) (h : n ≡ segmentsOf closed v)
+    (r : t ≡ (leb (2 * n) (length (old .vertices) / 3) and (leb (2 * n) (length (old .flags)) and leb (2 * n) (length (old .indexes))))) where
+  abbrev fits : Bool
+  fits = hasRoom old (roomFor closed v)
+
+  tested : t ≡ fits
+  unfolding hasRoom roomFor
+  tested = r ∙ rw h
+
+  pub ready : Counted v s → not t ≡ false → Ready v (roomFor closed v) s old
+  unfolding roomFor
+  ready k f =
+      let fit = all-fit (2 * n) (length (old .vertices) / 3) (length (old .flags)) (length (old .indexes)) (sym r ∙ not-false t f) in
+      record { long = k .long; two = k .two; most = k .most; vertices = omega (arith, fit .0); flags = omega (arith, fit .1); indexes = omega (arith, fit .2) }
+
+  module _ (σ : Settings) where
+    -- what is placed
+    abbrev judged : Verdict → Outcome
+    judged x = placed (roomFor closed v) x old
+
+    abbrev verdict : Verdict
+    verdict = roomyVerdict fits closed σ (verticesOf s)
+
+    pub no-room : not t ≡ true → ending (Refused NoRoom) old ≡ judged verdict
+    unfolding roomyVerdict
+    no-room f = unchanged NoRoom _ old (λ e. omega arith) ∙ ap judged (yes _ _ _ (ap not (sym tested) ∙ f) refl)
+
+    pub zero-offset : not t ≡ false → eq (σ .offset) zero ≡ true → {a : RawOffsetResult} {b : Buffers} → a ≡ resultOf (copied closed (verticesOf s))
+        → b ≡ shown (2 * segmentsOf closed v) (copied closed (verticesOf s)) old → ending (Done a) b ≡ judged verdict
+    unfolding roomyVerdict roomFor
+    zero-offset f e p q = rw (p, q) (ap judged (no _ _ _ (ap not (sym tested) ∙ f) (yes _ _ _ e refl)))
+
+    pub nonzero-offset : not t ≡ false → eq (σ .offset) zero ≡ false → {o : Outcome} → o ≡ judged (distinctVerdict closed σ (verticesOf s)) → o ≡ judged verdict
+    unfolding roomyVerdict
+    nonzero-offset f e q = q ∙ ap judged (no _ _ _ (ap not (sym tested) ∙ f) (no _ _ _ e refl))
+
+-- the room is small
+pub few-places : (closed : Bool) (v : ℕ) {n : ℕ} → v ≤ 4096 → n ≡ segmentsOf closed v → 2 * n ≤ 8192
+few-places closed v k h = let m = segments-most closed v in omega arith
+
+-- ---- from No. 5 on
+
+-- what is answered of what was built
+abbrev pub answered : Built → RawOffsetAnswer
+answered (Built.Done r) = Done r
+answered Built.NotFinite = Refused NotFinite
+
+built-ends : (room : ℕ) (d : Drawing) (old : Buffers) {x : Built} {b : Buffers} → finished x b ≡ builtOf room d old → ending (answered x) b ≡ placed room (finiteVerdict d) old
+unfolding builtOf finiteVerdict afterRefusal when_give_else_
+built-ends room d old h = ap (λ (f : Finished). ending (answered (f .built)) (f .buffers)) h ∙ by (allFinite (d .vertices))
+  where
+    by : (t : Bool) → let f : Finished = when t give finished (Built.Done (resultOf d)) (shown room d old) else finished Built.NotFinite (shown room nothing old) in
+        ending (answered (f .built)) (f .buffers) ≡ placed room (when t give drawn d else refused NotFinite) old
+    by true = refl
+    by false = refl
+
+module _ (closed : Bool) (σ : Settings) (vs : List PlineVertex) (room : ℕ) (old : Buffers) where
+  pub repeated-ends : (k : ℕ) → firstOf (repeatTests (σ .eps) closed vs) ≡ At k → ending (Refused (Repeated k)) old ≡ placed room (distinctVerdict closed σ vs) old
+  unfolding distinctVerdict
+  repeated-ends k e = unchanged (Repeated k) _ old (λ e. omega arith) ∙ ap (λ x. placed room x old) (found _ k _ _ e)
+
+  pub drawn-ends : firstOf (repeatTests (σ .eps) closed vs) ≡ Nowhere → {x : Built} {b : Buffers} → finished x b ≡ builtOf room (drawingOf closed σ vs) old
+      → ending (answered x) b ≡ placed room (distinctVerdict closed σ vs) old
+  unfolding distinctVerdict
+  drawn-ends e h = built-ends room (drawingOf closed σ vs) old h ∙ ap (λ x. placed room x old) (not-found _ _ _ e refl)

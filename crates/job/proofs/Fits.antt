@@ -1,0 +1,26 @@
+-- No answer has more vertices than the room asked for, 2n. Assumes nothing.
+use Prim.Native.Nat.{_≤_}
+use native.Mathlib.Omega.{arith}
+use Rattle.source.specs.Source.{verticesOf}
+use Rattle.source.proofs.Source.{length-vertices}
+use Rattle.walk.specs.Walk.{copied}
+use Rattle.walk.proofs.Lengths.{drawing-fits}
+use Rattle.sheet.proofs.Copied.{source-room}
+use Rattle.job.specs.Job.{result}
+use Rattle.job.specs.Rows.{Job, outcome, places}
+use Rattle.job.proofs.Ways.{Way, ragged, many, bad, few, tight, copy, repeated, endless, whole, leadsTo, ends, way}
+
+fits : (j : Job) (w : Way j) → result (leadsTo j w .answer) .vertices ≤ places j
+unfolding copied
+fits j (ragged r) = omega arith
+fits j (many r) = omega arith
+fits j (bad k r) = omega arith
+fits j (few n h) = omega arith
+fits j (tight r) = omega arith
+fits j (copy r z) = rw (length-vertices (j .source)) (source-room (j .closed) _ (r .two))
+fits j (repeated k r) = omega arith
+fits j (endless r) = omega arith
+fits j (whole d f) = rw (← length-vertices (j .source)) (drawing-fits (j .closed) (j .settings) (verticesOf (j .source)) .vertices)
+
+pub vertices-fit : (j : Job) → result (outcome j .answer) .vertices ≤ places j
+vertices-fit j = rw (ends j (way j)) at (fits j (way j))

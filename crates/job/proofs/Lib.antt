@@ -1,0 +1,11 @@
+pub mod Endless
+pub mod Ways
+pub mod Demand1
+pub mod Unique
+pub mod Went
+pub mod Output
+pub mod Demand3
+pub mod Assertions
+pub mod Fits
+pub mod PRows
+pub mod Ends

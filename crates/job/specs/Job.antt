@@ -1,0 +1,61 @@
+-- The whole job in rows (01 §1): the answer, and what the three buffers hold afterwards. A list whose length is no multiple of 3 is refused; of any other the verdict over
+-- its vertices is placed in the buffers. Definitions only.
+use Prim.Native.Nat.{ℕ, _/_, _%_}
+use mathlib.Core.List.{List}
+use mathlib.Core.Bool.{Bool, not}
+use lib.Dec.{leb, eqb}
+use lib.ListN.{length}
+use lib.Ieee.{Float}
+use Rattle.floats.specs.Choice.{when_give_else_, _and_}
+use Rattle.segments.specs.declared.Settings.{Settings}
+use Rattle.source.specs.Source.{verticesOf}
+use Rattle.refusals.specs.declared.Refusal.{Refusal}
+use Rattle.refusals.specs.declared.Refusal.the-variants.{Ragged}
+use Rattle.refusals.specs.Table.{numberOf, placeOf}
+use Rattle.moves.specs.declared.RawOffsetResult.{RawOffsetResult}
+use Rattle.moves.specs.Drawing.{nothing, emptyResult, resultOf}
+use Rattle.sheet.specs.Buffers.{Buffers, shown}
+use Rattle.job.specs.declared.RawOffsetAnswer.{RawOffsetAnswer}
+use Rattle.job.specs.declared.RawOffsetAnswer.the-variants.{Done, Refused}
+use Rattle.job.specs.Verdict.{Verdict, refused, drawn, roomFor, verdictOf}
+
+-- 01's number, place, counts of vertices and of indexes, and closed mark, for each answer
+abbrev pub number : RawOffsetAnswer → ℕ
+number (Done r) = 0
+number (Refused r) = numberOf r
+
+abbrev pub place : RawOffsetAnswer → ℕ
+place (Done r) = 0
+place (Refused r) = placeOf r
+
+-- a refusal has counts 0 and is open
+abbrev pub result : RawOffsetAnswer → RawOffsetResult
+result (Done r) = r
+result (Refused r) = emptyResult
+
+-- how a job ends: its answer, and what the buffers hold
+pub record Outcome : Type 0 where
+  pub answer : RawOffsetAnswer
+  pub buffers : Buffers
+
+abbrev pub ending : RawOffsetAnswer → Buffers → Outcome
+ending a b = record { answer = a; buffers = b }
+
+-- what a refusal leaves: No. 6 zeros up to the room, any other all as it was
+unfoldable pub afterRefusal : Refusal → ℕ → Buffers → Buffers
+afterRefusal r room old = when eqb (numberOf r) 6 give shown room nothing old else old
+
+-- a verdict in the first `room` places of the buffers
+abbrev pub placed : ℕ → Verdict → Buffers → Outcome
+placed room (refused r) old = ending (Refused r) (afterRefusal r room old)
+placed room (drawn d) old = ending (Done (resultOf d)) (shown room d old)
+
+-- so many vertices, flags and indexes fit; the vertices that fit are a third of the numbers, rounded down
+unfoldable pub hasRoom : Buffers → ℕ → Bool
+hasRoom b room = leb room (length (b .vertices) / 3) and (leb room (length (b .flags)) and leb room (length (b .indexes)))
+
+unfoldable pub jobOf : List Float → Bool → Settings → Buffers → Outcome
+jobOf source closed σ old =
+    let vs = verticesOf source in
+    when not (eqb (length source % 3) 0) give placed 0 (refused Ragged) old else
+    placed (roomFor closed (length vs)) (verdictOf (hasRoom old) closed σ vs) old

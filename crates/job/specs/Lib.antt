@@ -1,0 +1,6 @@
+pub mod Verdict
+pub mod Job
+pub mod Rows
+pub mod Demand1
+pub mod Demand3
+pub mod InnerSteps

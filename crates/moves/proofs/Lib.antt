@@ -1,0 +1,11 @@
+pub mod Laws
+pub mod Kept
+pub mod Lists
+pub mod Shapes
+pub mod Finite
+pub mod Near
+pub mod Choices
+pub mod Closing
+pub mod Drawn
+pub mod Flags
+pub mod Strokes

@@ -1,0 +1,19 @@
+-- The two kinds of move, each tagged with the source segment that it belongs to: its span, or the connector after it (000's emit_source_span and emit_join).
+-- Definitions only.
+use Prim.Native.Nat.{ℕ}
+use lib.Ieee.{Float}
+use Rattle.vectors.specs.declared.Vector2.{Vector2}
+use Rattle.segments.specs.declared.RawOffsetSeg.{RawOffsetSeg}
+use Rattle.segments.specs.Segment.{spanBulge}
+use Rattle.joins.specs.declared.JoinBoundary.{JoinBoundary}
+use Rattle.moves.specs.declared.Move.{Move}
+use Rattle.moves.specs.declared.Origin.the-variants.{Span, Connector}
+use Rattle.moves.specs.Reason.{spanReason, connectorReason}
+
+-- the span of segment i between two parameters: its bulge goes by its sweep
+unfoldable pub spanMove : ℕ → RawOffsetSeg → Float → Vector2 → Float → Move
+spanMove i g from end to = record { end = end; bulge = spanBulge g from to; reason = spanReason g from to; origin = Span (record { 0 = i }) }
+
+-- the connector of the join after segment i
+unfoldable pub connectorMove : ℕ → JoinBoundary → Move
+connectorMove i j = record { end = j .«next_start»; bulge = j .«connector_bulge»; reason = connectorReason (j .cause); origin = Connector (record { 0 = i }) }

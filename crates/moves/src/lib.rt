@@ -1,0 +1,251 @@
+// The moves of a walk, and what the pen draws of them, by value.
+ghost use mathlib.Core.Path.{_≡_};
+ghost use Prim.Native.Nat.{_+_, _^_, _<_};
+ghost use Rattle.floats.specs.Binary64.{zero};
+ghost use Rattle.floats.specs.Choice.{when_give_else_};
+ghost use Rattle.segments.specs.InnerSteps.{fullSeg};
+ghost use Rattle.moves.specs.Reason.{spanReason, connectorReason, isInvalid};
+ghost use Rattle.moves.specs.Made.{spanMove, connectorMove};
+ghost use Rattle.moves.specs.Drawing.{finiteVertex, emptyResult};
+ghost use Rattle.moves.specs.InnerSteps.{penAt, penAfter, stepOf, withBulge};
+use joins::JoinBoundary;
+use joins::JoinCause;
+use segments::CarriedSeg;
+use segments::OutputSegment;
+use segments::PlineVertex;
+use segments::SourceSegment;
+use vectors::Vector2;
+
+// The source segment that a move belongs to: as its span, or as the connector after it.
+pub enum Origin {
+    Span(SourceSegment),
+    Connector(SourceSegment),
+}
+
+// Why a move's flag is set or clear.
+pub enum Reason {
+    InOrder,
+    TurnedBack,
+    CollapsedArc,
+    Round,
+    Reversal,
+    Meeting,
+    CollapsedSide,
+    NoMeeting,
+    CandidatesMissed,
+    ZeroTangent,
+    SameDirection,
+}
+
+impl Reason {
+    pub fn is_invalid(self) -> bool
+        ensures { λ r. ⌜ r ≡ isInvalid self ⌝ }
+    {
+        match self {
+            Reason::InOrder => false,
+            Reason::TurnedBack => true,
+            Reason::CollapsedArc => true,
+            Reason::Round => false,
+            Reason::Reversal => false,
+            Reason::Meeting => false,
+            Reason::CollapsedSide => true,
+            Reason::NoMeeting => true,
+            Reason::CandidatesMissed => true,
+            Reason::ZeroTangent => true,
+            Reason::SameDirection => true,
+        }
+    }
+
+    // Of a segment's span between two parameters.
+    fn of_span(segment: CarriedSeg, start_param: f64, end_param: f64) -> Reason
+        ensures { λ r. ⌜ r ≡ spanReason (fullSeg segment) «start_param» «end_param» ⌝ }
+    {
+        if segment.is_collapsed() {
+            return Reason::CollapsedArc;
+        }
+        if end_param <= start_param {
+            return Reason::TurnedBack;
+        }
+        Reason::InOrder
+    }
+
+    // Of the connector of a join.
+    fn of_connector(cause: JoinCause) -> Reason
+        ensures { λ r. ⌜ r ≡ connectorReason cause ⌝ }
+    {
+        match cause {
+            JoinCause::Coincident => Reason::Meeting,
+            JoinCause::Met => Reason::Meeting,
+            JoinCause::OuterTurn => Reason::Round,
+            JoinCause::Reversal => Reason::Reversal,
+            JoinCause::CollapsedSide => Reason::CollapsedSide,
+            JoinCause::NoMeeting => Reason::NoMeeting,
+            JoinCause::CandidatesMissed => Reason::CandidatesMissed,
+            JoinCause::ZeroTangent => Reason::ZeroTangent,
+            JoinCause::SameDirection => Reason::SameDirection,
+        }
+    }
+}
+
+// A move of the walk: where it ends, its bulge, why it is valid or not, and whose it is.
+pub struct Move {
+    pub end: Vector2,
+    pub bulge: f64,
+    pub reason: Reason,
+    pub origin: Origin,
+}
+
+impl Move {
+    // A segment's span between two parameters, straight as yet: a bulge takes longer than all else, and
+    // may be made later.
+    pub fn straight_span(
+        source: SourceSegment,
+        segment: CarriedSeg,
+        start_param: f64,
+        end: Vector2,
+        end_param: f64,
+    ) -> Move
+        ensures { λ r. ⌜ r ≡ withBulge zero (spanMove (source .0) (fullSeg segment) «start_param» end «end_param») ⌝ }
+    {
+        let reason = Reason::of_span(segment, start_param, end_param);
+        let origin = Origin::Span(source);
+        Move {
+            end,
+            bulge: 0.0,
+            reason,
+            origin,
+        }
+    }
+
+    // The connector of the join after a segment.
+    pub fn connector(source: SourceSegment, boundary: JoinBoundary) -> Move
+        ensures { λ r. ⌜ r ≡ connectorMove (source .0) boundary ⌝ }
+    {
+        let cause = boundary.cause;
+        let reason = Reason::of_connector(cause);
+        let origin = Origin::Connector(source);
+        let end = boundary.next_start;
+        Move {
+            end,
+            bulge: boundary.connector_bulge,
+            reason,
+            origin,
+        }
+    }
+
+    // The same move, with its bulge.
+    pub fn bulging(self, bulge: f64) -> Move
+        ensures { λ r. ⌜ r ≡ withBulge bulge self ⌝ }
+    {
+        let end = self.end;
+        let reason = self.reason;
+        let origin = self.origin;
+        Move {
+            end,
+            bulge,
+            reason,
+            origin,
+        }
+    }
+}
+
+// The last kept point, and the number of the next output segment.
+pub struct Pen {
+    pub last: Vector2,
+    pub number: OutputSegment,
+}
+
+// What is drawn of a kept move: the vertex that it leaves, with its bulge.
+pub struct Stroke {
+    pub vertex: PlineVertex,
+    pub reason: Reason,
+    pub origin: Origin,
+    pub number: OutputSegment,
+}
+
+// What becomes of a move: its stroke, if it is kept, and the pen then.
+pub struct Stepped {
+    pub kept: bool,
+    pub stroke: Stroke,
+    pub pen: Pen,
+}
+
+impl Pen {
+    // At the first vertex.
+    pub fn add_first(point: Vector2) -> Pen
+        ensures { λ r. ⌜ r ≡ penAt point ⌝ }
+    {
+        let number = OutputSegment(0);
+        Pen {
+            last: point,
+            number,
+        }
+    }
+
+    fn after(self, m: Move, dropped: bool) -> Pen
+        requires { ⌜ self .number .0 + 1 < 2 ^ 32 ⌝ }
+        ensures { λ r. ⌜ r ≡ when dropped give self else penAfter self m ⌝ }
+    {
+        if dropped {
+            return self;
+        }
+        let last = m.end;
+        let here = self.number;
+        let number = OutputSegment(here.0 + 1);
+        Pen { last, number }
+    }
+
+    // The decision on one move, before anything is counted: it is dropped where it ends within eps of
+    // the last kept point.
+    pub fn step(self, m: Move, eps: f64) -> Stepped
+        requires { ⌜ self .number .0 + 1 < 2 ^ 32 ⌝ }
+        ensures { λ r. ⌜ r ≡ stepOf self m eps ⌝ }
+    {
+        let last = self.last;
+        let end = m.end;
+        let dropped = last.fuzzy_eq_eps(end, eps);
+        let vertex = PlineVertex::from_vector2(last, m.bulge);
+        let number = self.number;
+        let reason = m.reason;
+        let origin = m.origin;
+        let pen = self.after(m, dropped);
+        let stroke = Stroke {
+            vertex,
+            reason,
+            origin,
+            number,
+        };
+        Stepped {
+            kept: !dropped,
+            stroke,
+            pen,
+        }
+    }
+}
+
+// A difference of a number and itself is zero, unless it is a NaN or an infinity: one test for all three.
+pub fn is_finite(v: PlineVertex) -> bool
+    ensures { λ r. ⌜ r ≡ finiteVertex v ⌝ }
+{
+    (v.x - v.x) + (v.y - v.y) + (v.bulge - v.bulge) == 0.0
+}
+
+// How many vertices and indexes there are, and whether the answer is closed.
+pub struct RawOffsetResult {
+    pub vertices: u32,
+    pub indexes: u32,
+    pub closed: bool,
+}
+
+impl RawOffsetResult {
+    // Empty and open.
+    pub fn empty() -> RawOffsetResult
+        ensures { λ r. ⌜ r ≡ emptyResult ⌝ }
+    {
+        RawOffsetResult {
+            vertices: 0,
+            indexes: 0,
+            closed: false,
+        }
+    }
+}

@@ -1,0 +1,10 @@
+pub mod Flat
+pub mod Over
+pub mod Writing
+pub mod Copied
+pub mod Stored
+pub mod Storing
+pub mod Bulges
+pub mod Routes
+pub mod Loop
+pub mod Whole

@@ -1,0 +1,264 @@
+-- The turns of a walk, stored: what one of them adds, what the code's turn leaves, and what holds all along the loop over them (`Walking`). Assumes nothing.
+use mathlib.Core.Path.{_≡_, refl, sym, ap, _∙_, subst}
+use mathlib.Core.List.{List, [], _∷_}
+use mathlib.Core.Bool.{Bool, true, false, false≢true}
+use Prim.Native.Nat.{ℕ, zero, suc, _+_, _*_, _-_, _<_, _≤_}
+use native.Mathlib.Omega.{arith}
+use borrow.Author.Tests.{eqb-true}
+use lib.Dec.{eqb}
+use lib.ListN.{length, replicate, length-append}
+use lib.Ieee.{Float}
+use Rattle.floats.specs.Binary64 as B
+use Rattle.floats.specs.Choice.{when_give_else_, _and_}
+use Rattle.floats.specs.Size.{finite}
+use Rattle.angles.specs.Angle.{bulgeOf}
+use Rattle.segments.specs.declared.PlineVertex.{PlineVertex}
+use Rattle.segments.specs.declared.Settings.{Settings}
+use Rattle.segments.specs.InnerSteps.{chordOf}
+use Rattle.source.specs.InnerSteps.{vertexOf, nextOf}
+use Rattle.sweeps.specs.InnerSteps.{Memo}
+use Rattle.sweeps.proofs.Slots.{kept-none}
+use Rattle.moves.specs.declared.Pen.{Pen}
+use Rattle.moves.specs.declared.Stepped.{Stepped}
+use Rattle.moves.specs.InnerSteps.{penAfter, stepOf}
+use Rattle.walk.specs.declared.Walk.{Walk}
+use Rattle.walk.specs.declared.Turned.{Turned}
+use Rattle.walk.specs.InnerSteps.{Standing, stands, Stood, stood, Fit, standingAt, entering, afterTurn, Turn, turnTo, turnShown, drawnBy, advance}
+use Rattle.sheet.specs.declared.Places.{Places}
+use Rattle.sheet.specs.declared.Later.{Later}
+use Rattle.sheet.specs.Buffers.{Buffers, buffers}
+use Rattle.sheet.specs.InnerSteps.{noPlaces, Laid, laid, stores, bulgedAt, bulged, laterOf, Trail, trail, trailLater, advanced, advances, routed, Rooms, Alike, Turns, Ready}
+use Rattle.sheet.proofs.Stored.{Counted, stores-counted}
+use Rattle.sheet.proofs.Storing.{step-number}
+use Rattle.sheet.proofs.Bulges.{turnStrokes, later, later-placed}
+
+-- ---- what a turn adds
+
+after-turn : (closed : Bool) (pen : Pen) (n : ℕ) (w : Standing) → let x = afterTurn closed pen n w in
+    (x .leading ≡ n - 1) × (x .walker .source .0 ≤ w .source .0) × (x .pen .number .0 ≤ pen .number .0) × (x .walker .vertex ≡ w .vertex)
+unfolding afterTurn entering
+after-turn closed pen zero w = (omega arith, omega arith, omega arith, refl)
+after-turn closed pen (suc zero) w = (omega arith, omega arith, omega arith, refl)
+after-turn closed pen (suc (suc n)) w = (omega arith, omega arith, omega arith, refl)
+
+pub drawn-few : (n : ℕ) (st : Stepped) → length (drawnBy n st) ≤ 1 - n
+unfolding drawnBy
+drawn-few n st = by (eqb n 0) (st .kept) refl
+  where
+    by : (z t : Bool) → eqb n 0 ≡ z → length (when z and t give st .stroke ∷ [] else []) ≤ 1 - n
+    by true true h = unfold when_give_else_ _and_ in omega (arith, eqb-true n 0 h)
+    by true false h = unfold when_give_else_ _and_ in omega arith
+    by false t h = unfold when_give_else_ _and_ in omega arith
+
+-- one turn: two strokes at most, or none where it leads in
+pub record Moved (c : PlineVertex) (w w′ : Stood) (strokes : ℕ) : Type 0 where
+  pub leading : w′ .leading ≡ w .leading - 1
+  pub source : w′ .walker .source .0 ≤ w .walker .source .0 + 1
+  pub number : w′ .pen .number .0 ≤ w .pen .number .0 + 2
+  pub vertex : w′ .walker .vertex ≡ c
+  pub few : strokes ≤ 2 * (1 - w .leading)
+
+pub advance-moved : (closed : Bool) (σ : Settings) (c : PlineVertex) (w : Stood) → let a = advance closed σ c w in Moved c w (a .stood) (length (a .strokes))
+unfolding advance turnTo
+advance-moved closed σ c w =
+    let t = turnTo (w .walker) c σ in
+    let first = stepOf (w .pen) (t .span) (σ .eps) in
+    let second = stepOf (first .pen) (t .connector) (σ .eps) in
+    let x = after-turn closed (second .pen) (w .leading) (t .walker) in
+    let f = step-number (w .pen) (t .span) (σ .eps) in
+    let g = step-number (first .pen) (t .connector) (σ .eps) in
+    let l = length-append (drawnBy (w .leading) first) (drawnBy (w .leading) second) in
+    let d = drawn-few (w .leading) first in
+    let e = drawn-few (w .leading) second in
+    record { leading = x .0; source = omega (arith, x .1); number = omega (arith, x .2); vertex = x .3; few = omega arith }
+
+-- all turns
+pub record Gone (n : ℕ) (r r′ : Trail) : Type 0 where
+  pub number : r′ .stood .pen .number .0 ≤ r .stood .pen .number .0 + 2 * n
+  pub strokes : r′ .laid .places .strokes ≤ r .laid .places .strokes + 2 * (n - r .stood .leading)
+  pub marks : r′ .laid .places .marks ≤ r .laid .places .marks + 2 * (n - r .stood .leading)
+
+pub advances-gone : (closed : Bool) (σ : Settings) (vs : List PlineVertex) (r : Trail) → Gone (length vs) r (advances closed σ vs r)
+unfolding advances advanced
+advances-gone closed σ [] r = record { number = omega arith; strokes = omega arith; marks = omega arith }
+advances-gone closed σ (c ∷ vs) r =
+    let m = advance-moved closed σ c (r .stood) in
+    let k = stores-counted (advance closed σ c (r .stood) .strokes) (r .laid) in
+    let g = advances-gone closed σ vs (advanced closed σ c r) in
+    record { number = omega arith; strokes = omega arith; marks = omega arith }
+
+-- ---- a turn of the code
+
+-- a bulge that is left to be written is one of a stored vertex
+abbrev pub Placed : Later → Places → Type 0
+Placed r p = r .due ≡ true → r .place < p .strokes
+
+-- from the walk w, its places p, the bulge r that is left to be written and the buffers b on to the vertex c, by `t`: r is written, and its own left in its place
+pub record Round (closed : Bool) (σ : Settings) (c : PlineVertex) (w : Walk) (p : Places) (r : Later) (b : Buffers) (t : Turned)
+    (w′ : Walk) (p′ : Places) (r′ : Later) (b′ : Buffers) : Type 0 where
+  pub here : Places
+  pub between : Buffers
+  pub pen : Pen
+  pub wrote : laid here between ≡ bulged r (laid p b)
+  pub turned : turnShown t ≡ turnTo (stands w) c σ
+  pub straight : t .span .bulge ≡ B.zero
+  pub same-pen : t .walk .pen ≡ w .pen
+  pub same-leading : t .walk .leading ≡ w .leading
+  pub drew : laid p′ b′ ≡ stores (turnStrokes (t .walk .leading) (t .walk .pen) (t .span) (t .connector) (σ .eps)) (laid here between)
+  pub left : r′ ≡ laterOf here t (σ .eps)
+  pub moved : pen ≡ stepOf (stepOf (t .walk .pen) (t .span) (σ .eps) .pen) (t .connector) (σ .eps) .pen
+  pub after : stood w′ ≡ afterTurn closed pen (t .walk .leading) (stands (t .walk))
+
+-- what a turn leaves, by its moves
+by : Bool → Float → ℕ → Pen → Turn → Laid → Trail
+by closed ε n pen u l = record {
+  stood = afterTurn closed (stepOf (stepOf pen (u .span) ε .pen) (u .connector) ε .pen) n (u .walker);
+  laid = stores (turnStrokes n pen (u .span) (u .connector) ε) l;
+}
+
+by-advanced : (closed : Bool) (σ : Settings) (c : PlineVertex) (r : Trail)
+    → by closed (σ .eps) (r .stood .leading) (r .stood .pen) (turnTo (r .stood .walker) c σ) (r .laid) ≡ advanced closed σ c r
+unfolding by advanced advance
+by-advanced closed σ c r = refl
+
+module _ {closed : Bool} {σ : Settings} {c : PlineVertex} {w : Walk} {p : Places} {r : Later} {b : Buffers} {t : Turned} {w′ : Walk} {p′ : Places} {r′ : Later} {b′ : Buffers}
+    (x : Round closed σ c w p r b t w′ p′ r′ b′) where
+  by-code : trailLater w′ p′ r′ b′ ≡ by closed (σ .eps) (t .walk .leading) (t .walk .pen) (turnShown t) (laid (x .here) (x .between))
+  unfolding by stepOf penAfter
+  by-code =
+      let l = later t (σ .eps) (laid (x .here) (x .between)) (x .straight) in
+      rw (x .after, x .moved, x .left, x .drew) (rw l)
+
+  round-advanced : trailLater w′ p′ r′ b′ ≡ advanced closed σ c (trailLater w p r b)
+  round-advanced = by-code ∙ rw (x .turned, x .wrote, x .same-pen, x .same-leading) (by-advanced closed σ c (trailLater w p r b))
+
+  round-moved : Moved c (stood w) (stood w′) (length (advance closed σ c (stood w) .strokes))
+  round-moved = rw (ap (λ (y : Trail). y .stood) round-advanced) (unfold advanced in advance-moved closed σ c (stood w))
+
+  round-placed : Placed r′ p′
+  round-placed d =
+      let l = laid (x .here) (x .between) in
+      let e = ap (λ (y : Later). y .place) (x .left) in
+      let n = ap (λ (y : Laid). y .places .strokes) (x .drew) in
+      omega (arith, later-placed t (σ .eps) l (ap (λ (y : Later). y .due) (sym (x .left)) ∙ d))
+
+  round-counted : Counted (length (advance closed σ c (stood w) .strokes)) p p′
+  unfolding bulged advanced
+  round-counted =
+      let k = stores-counted (advance closed σ c (stood w) .strokes) (bulged r (laid p b)) in
+      let m = k .marks in
+      let e = ap (λ (y : Trail). y .laid .places .marks) round-advanced in
+      record { strokes = ap (λ (y : Trail). y .laid .places .strokes) round-advanced ∙ k .strokes; marks = omega arith }
+
+  -- room for the turns after it
+  round-turns : (n : ℕ) → Fit w′ → Alike b b′ → Turns (suc n) w p b → Turns n w′ p′ b′
+  round-turns n f a h =
+      let m = round-moved in
+      let k = round-counted in
+      let q = h .rooms in
+      record {
+        fit = f;
+        sources = omega (arith, h .sources);
+        outputs = omega (arith, h .outputs);
+        rooms = record { vertices = omega (arith, q .vertices); flags = omega (arith, q .flags); indexes = omega (arith, q .indexes) };
+      }
+
+-- ---- the loop
+
+-- the code writes what is left
+pub wrote-later : (r : Later) (p : Places) (b : Buffers) {ns : List Float} {t : Bool} → ns ≡ bulgedAt (r .due) (r .place) (bulgeOf (r .sweep)) (b .vertices)
+    → t ≡ when r .due give finite (bulgeOf (r .sweep)) and p .finite else p .finite
+    → laid (record { strokes = p .strokes; marks = p .marks; finite = t }) (buffers ns (b .flags) (b .indexes)) ≡ bulged r (laid p b)
+unfolding bulged
+wrote-later r p b h k = rw (h, k)
+
+alike-trans : {a b c : Buffers} → Alike a b → Alike b c → Alike a c
+alike-trans p q = record { vertices = q .vertices ∙ p .vertices; flags = q .flags ∙ p .flags; indexes = q .indexes ∙ p .indexes }
+
+-- with nothing left to be written
+later-none : (w : Walk) (p : Places) (r : Later) (b : Buffers) → r .due ≡ false → trailLater w p r b ≡ trail (record { walk = w; places = p }) b
+unfolding bulged bulgedAt when_give_else_
+later-none w p r b h = rw h
+
+left-more : (closed : Bool) (σ : Settings) (s : List Float) (v n k : ℕ) (r : Trail)
+    → advances closed σ (routed v n (nextOf v k) s) (advanced closed σ (vertexOf s k) r) ≡ advances closed σ (routed v (suc n) k s) r
+unfolding advances routed
+left-more closed σ s v n k r = refl
+
+-- Of n turns over a source s of v vertices, from the buffers b₀ on to the trail `end`, i are done, and the next is to place k. What the turns still to come leave is that end.
+-- The chord to the next vertex is worked out, and the sweeps in the memo are those of their bulges.
+pub record Walking (closed : Bool) (σ : Settings) (s : List Float) (v n : ℕ) (b₀ : Buffers) (end : Trail) (i k : ℕ) (w : Walk) (p : Places) (r : Later) (b : Buffers) (chord : Float)
+    (keys : List ℕ) (sweeps : List Float) : Type 0 where
+  pub within : i ≤ n
+  pub below : k < v
+  pub alike : Alike b₀ b
+  pub left : advances closed σ (routed v (n - i) k s) (trailLater w p r b) ≡ end
+  pub room : Turns (n - i) w p b
+  pub placed : Placed r p
+  pub ahead : chord ≡ chordOf (w .vertex) (vertexOf s k)
+  pub memo : Memo keys sweeps
+
+module _ {closed : Bool} {σ : Settings} {s : List Float} {v n : ℕ} where
+  pub walking-none : {w : Walk} {p : Places} {r : Later} {b : Buffers} {k : ℕ} {chord : Float} → r .due ≡ false → k < v → Turns n w p b → chord ≡ chordOf (w .vertex) (vertexOf s k)
+      → Walking closed σ s v n b (advances closed σ (routed v n k s) (trail (record { walk = w; places = p }) b)) 0 k w p r b chord (replicate 16 0) (replicate 16 B.zero)
+  walking-none {w} {p} {r} {b} {k} none h t e = let z : n - 0 ≡ n = omega arith in record {
+    within = omega arith;
+    below = h;
+    alike = record { vertices = refl; flags = refl; indexes = refl };
+    left = rw (z, later-none w p r b none);
+    room = rw z t;
+    placed = λ (d : r .due ≡ true). absurd (false≢true (sym none ∙ d));
+    ahead = e;
+    memo = kept-none;
+  }
+
+  module _ {b₀ : Buffers} {end : Trail} {i k : ℕ} {w : Walk} {p : Places} {r : Later} {b : Buffers} {chord : Float} {keys : List ℕ} {sweeps : List Float}
+      (on : Walking closed σ s v n b₀ end i k w p r b chord keys sweeps) where
+    pub walking-turn : {c : PlineVertex} (t : Turned) {w′ : Walk} {p′ : Places} {r′ : Later} {b′ : Buffers} {k′ : ℕ} {chord′ : Float} {keys′ : List ℕ} {sweeps′ : List Float}
+        → i < n → Round closed σ c w p r b t w′ p′ r′ b′ → c ≡ vertexOf s k → Fit w′ → Alike b b′
+        → (k′ ≡ nextOf v k) × (k′ < v) → chord′ ≡ chordOf c (vertexOf s k′) → Memo keys′ sweeps′
+        → Walking closed σ s v n b₀ end (i + 1) k′ w′ p′ r′ b′ chord′ keys′ sweeps′
+    walking-turn {c} t {w′} {p′} {r′} {b′} {k′} lt x hc f a hk hd m =
+        let e : n - i ≡ suc (n - (i + 1)) = omega arith in
+        record {
+          within = omega arith;
+          below = hk .1;
+          alike = alike-trans (on .alike) a;
+          left =
+              rw (round-advanced x, hk .0, hc)
+              (left-more closed σ s v (n - (i + 1)) k (trailLater w p r b) ∙ ap (λ j. advances closed σ (routed v j k s) (trailLater w p r b)) (sym e) ∙ on .left);
+          room = round-turns x (n - (i + 1)) f a (subst (λ j. Turns j w p b) e (on .room));
+          placed = round-placed x;
+          ahead = hd ∙ ap (λ (y : PlineVertex). chordOf y (vertexOf s k′)) (sym (round-moved x .vertex));
+          memo = m;
+        }
+
+    pub walking-done : n ≤ i → trailLater w p r b ≡ end
+    unfolding advances routed
+    walking-done h = let z : n - i ≡ 0 = omega arith in subst (λ j. advances closed σ (routed v j k s) (trailLater w p r b) ≡ end) z (on .left)
+
+    -- room for the bulge that is left, and for a turn's strokes
+    pub room-later : r .due ≡ true → 3 * r .place + 3 ≤ length (b .vertices)
+    room-later d = let k = on .placed d in omega (arith, on .room .rooms .vertices)
+
+    pub room-turn : {p₁ : Places} {b₁ : Buffers} → i < n → p₁ .strokes ≡ p .strokes → p₁ .marks ≡ p .marks → Alike b b₁ → w .leading ≡ 0 → Rooms 2 p₁ b₁
+    room-turn lt hs hm a z =
+        let q = on .room .rooms in
+        record { vertices = omega (arith, q .vertices, a .vertices); flags = omega (arith, q .flags, a .flags); indexes = omega (arith, q .indexes, a .indexes) }
+
+-- there is room for n turns at the first vertex, where m of them lead in
+pub turns-first : (n m room : ℕ) (a : PlineVertex) {v : ℕ} {w : Walk} {p : Places} {s : List Float} {b : Buffers} → Ready v room s b → (stood w ≡ standingAt a m) × Fit w → p ≡ noPlaces
+    → n ≤ v + 2 → 2 * (n - m) ≤ room → Turns n w p b
+unfolding standingAt
+turns-first n m room a {w = w} {p = p} r h e l q =
+    let source : w .source .0 ≡ 0 = ap (λ (x : Stood). x .walker .source .0) (h .0) in
+    let number : w .pen .number .0 ≡ 0 = ap (λ (x : Stood). x .pen .number .0) (h .0) in
+    let leading : w .leading ≡ m = ap (λ (x : Stood). x .leading) (h .0) in
+    let strokes : p .strokes ≡ 0 = ap (λ (x : Places). x .strokes) e in
+    let marks : p .marks ≡ 0 = ap (λ (x : Places). x .marks) e in
+    record {
+      fit = h .1;
+      sources = omega (arith, r .most);
+      outputs = omega (arith, r .most);
+      rooms = record { vertices = omega (arith, r .vertices); flags = omega (arith, r .flags); indexes = omega (arith, r .indexes) };
+    }

@@ -1,0 +1,63 @@
+-- The vertices that a walk turns to: an open one to all but the first (`open-route`), a closed one to all of them and to the first two again (`closed-route`). Assumes nothing.
+use mathlib.Core.Path.{_≡_, refl, sym, ap, _∙_}
+use mathlib.Core.List.{List, [], _∷_, _++_, append-nil}
+use mathlib.Core.Bool.{Bool, true, false}
+use Prim.Native.Nat.{ℕ, zero, suc, _+_, _*_, _-_, _≤_, _<_}
+use native.Mathlib.Nat.{suc-add}
+use native.Mathlib.Omega.{arith}
+use lib.ListN.{length, drop, getD, length-drop, drop-of-length-le}
+use lib.Ieee.{Float}
+use Rattle.segments.specs.declared.PlineVertex.{PlineVertex}
+use Rattle.source.specs.Source.{verticesOf}
+use Rattle.source.specs.InnerSteps.{vertexOf}
+use Rattle.source.proofs.Source.{count-vertices, getD-vertices, drop-vertices}
+use Rattle.source.proofs.Segments.{next-on, next-back}
+use Rattle.walk.specs.Walk.{lastVertex}
+use Rattle.sheet.specs.InnerSteps.{firstPlace, routed}
+
+-- the place that a walk turns to first is there
+pub first-below : (closed : Bool) {k v : ℕ} → k ≡ firstPlace closed → 2 ≤ v → k < v
+first-below true e h = omega arith
+first-below false e h = omega arith
+
+last-at : (a : PlineVertex) (vs : List PlineVertex) (d : PlineVertex) → lastVertex a vs ≡ getD (a ∷ vs) (length vs) d
+unfolding lastVertex
+last-at a [] d = refl
+last-at a (b ∷ vs) d = last-at b vs d
+
+module _ (s : List Float) (v : ℕ) (long : 3 * v ≡ length s) where
+  -- up to the last vertex, and then from the first on
+  routed-on : (n m k : ℕ) → k + suc n ≡ v → routed v (suc n + m) k s ≡ drop k (verticesOf s) ++ routed v m 0 s
+  unfolding routed
+  routed-on zero m k h =
+      let e : drop (k + 1) (verticesOf s) ≡ [] = drop-of-length-le (verticesOf s) {i = k + 1} (omega (arith, count-vertices s v long)) in
+      let z : zero + m ≡ m = omega arith in
+      rw (suc-add, drop-vertices s k (omega arith), e) (ap (λ (vs : List PlineVertex). vertexOf s k ∷ vs) (rw (z, next-back v k (omega arith))))
+  routed-on (suc n) m k h =
+      rw (suc-add, drop-vertices s k (omega arith))
+      (ap (λ (vs : List PlineVertex). vertexOf s k ∷ vs) (rw (next-on v k (omega arith)) (routed-on n m (k + 1) (omega arith))))
+
+  module _ (two : 2 ≤ v) where
+    pub first-two : verticesOf s ≡ vertexOf s 0 ∷ vertexOf s 1 ∷ drop 2 (verticesOf s)
+    first-two = drop-vertices s 0 (omega arith) ∙ ap (λ (vs : List PlineVertex). vertexOf s 0 ∷ vs) (drop-vertices s 1 (omega arith))
+
+    pub others : length (drop 2 (verticesOf s)) + 2 ≡ v
+    others = omega (arith, length-drop 2 (verticesOf s), count-vertices s v long)
+
+    pub last-is : lastVertex (vertexOf s 1) (drop 2 (verticesOf s)) ≡ vertexOf s (v - 1)
+    last-is =
+        let d = vertexOf s (v - 1) in
+        let n : suc (length (drop 2 (verticesOf s))) ≡ v - 1 = omega (arith, others) in
+        last-at (vertexOf s 1) (drop 2 (verticesOf s)) d
+        ∙ (ap (λ (vs : List PlineVertex). getD vs (suc (length (drop 2 (verticesOf s)))) d) (sym first-two) ∙ ap (λ k. getD (verticesOf s) k d) n ∙ getD-vertices s (v - 1) d (omega arith))
+
+    pub open-route : routed v (v - 1) 1 s ≡ vertexOf s 1 ∷ drop 2 (verticesOf s)
+    open-route =
+        let n : v - 1 ≡ suc (v - 2) + 0 = omega arith in
+        ap (λ k. routed v k 1 s) n ∙ routed-on (v - 2) 0 1 (omega arith) ∙ rw (drop-vertices s 1 (omega arith)) (unfold routed in rw append-nil)
+
+    pub closed-route : routed v (v + 2) 0 s ≡ vertexOf s 0 ∷ vertexOf s 1 ∷ drop 2 (verticesOf s) ++ vertexOf s 0 ∷ vertexOf s 1 ∷ []
+    closed-route =
+        let n : v + 2 ≡ suc (v - 1) + 2 = omega arith in
+        let e : routed v 2 0 s ≡ vertexOf s 0 ∷ vertexOf s 1 ∷ [] = unfold routed in rw (next-on v 0 (omega arith)) in
+        ap (λ k. routed v k 0 s) n ∙ routed-on (v - 1) 2 0 (omega arith) ∙ rw (first-two, e)

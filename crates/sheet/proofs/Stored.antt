@@ -1,0 +1,116 @@
+-- Strokes stored one by one: those of kept moves leave the lists of a drawing, written over the buffers (`stores-drawn`). Assumes nothing.
+use mathlib.Core.Path.{_≡_, refl, _∙_}
+use mathlib.Core.List.{List, [], _∷_, _++_}
+use mathlib.Core.Bool.{Bool, true, false}
+use Prim.Native.Nat.{ℕ, suc, _+_, _*_, _≤_}
+use native.Mathlib.Nat.{add-zero, zero-add}
+use native.Mathlib.Numerals.{add-one}
+use native.Mathlib.Omega.{arith}
+use lib.ListN.{length, set}
+use lib.Seq.{sets, sets-eq}
+use Rattle.floats.specs.Choice.{when_give_else_, _and_}
+use Rattle.vectors.specs.declared.Vector2.{Vector2}
+use Rattle.segments.specs.Vertex.{vertexAt}
+use Rattle.moves.specs.declared.Move.{Move}
+use Rattle.moves.specs.declared.Stroke.{Stroke}
+use Rattle.moves.specs.Reason.{isInvalid, invalidMove}
+use Rattle.moves.specs.Drawing.{Drawing, corners, flagsOf, marks, mark, bit, finiteVertex, allFinite}
+use Rattle.moves.specs.InnerSteps.{strokes}
+use Rattle.moves.proofs.Laws.{bit-small}
+use Rattle.moves.proofs.Shapes.{path, path-fits}
+use Rattle.sheet.specs.declared.Places.{Places}
+use Rattle.sheet.specs.Buffers.{Buffers, buffers, flat}
+use Rattle.sheet.specs.InnerSteps.{noPlaces, Laid, laid, stored, stores, over}
+use Rattle.sheet.proofs.Flat.{length-flat}
+
+pub stores-append : (ss ts : List Stroke) (l : Laid) → stores (ss ++ ts) l ≡ stores ts (stores ss l)
+unfolding stores
+stores-append [] ts l = refl
+stores-append (s ∷ ss) ts l = stores-append ss ts (stored s l)
+
+-- n strokes take n places, and at most n of the indexes
+pub record Counted (n : ℕ) (p q : Places) : Type 0 where
+  pub strokes : q .strokes ≡ p .strokes + n
+  pub marks : q .marks ≤ p .marks + n
+
+pub stores-counted : (ss : List Stroke) (l : Laid) → Counted (length ss) (l .places) (stores ss l .places)
+unfolding stores stored
+stores-counted [] l = record { strokes = omega arith; marks = omega arith }
+stores-counted (s ∷ ss) l =
+    let c = stores-counted ss (stored s l) in
+    let b = bit-small (isInvalid (s .reason)) in
+    record { strokes = omega arith; marks = omega arith }
+
+-- ---- the strokes of kept moves, from any places on
+
+abbrev row : ℕ → Vector2 → List Move → Laid → Laid
+row n p ks l = record {
+  places = record {
+    strokes = l .places .strokes + length ks;
+    marks = l .places .marks + length (marks n ks);
+    finite = allFinite (corners p ks) and l .places .finite;
+  };
+  buffers = record {
+    vertices = sets (l .buffers .vertices) (3 * l .places .strokes) (flat (corners p ks));
+    flags = sets (l .buffers .flags) (l .places .strokes) (flagsOf ks);
+    indexes = sets (l .buffers .indexes) (l .places .marks) (marks n ks);
+  };
+}
+
+swap : (a b c : Bool) → (a and (b and c)) ≡ (b and a and c)
+unfolding _and_
+swap true true c = refl
+swap true false c = refl
+swap false true c = refl
+swap false false c = refl
+
+-- the index of a move, if it is invalid, and those of the moves after it
+index-more : (i : Bool) (is : List ℕ) (j k : ℕ) (ks : List ℕ) → sets (when i give set is j k else is) (j + bit i) ks ≡ sets is j (mark i k ks)
+unfolding when_give_else_
+index-more true is j k ks = rw add-one
+index-more false is j k ks = rw add-zero
+
+index-count : (i : Bool) (j k : ℕ) (ks : List ℕ) → j + bit i + length ks ≡ j + length (mark i k ks)
+index-count true j k ks = omega arith
+index-count false j k ks = omega arith
+
+stores-row : (n : ℕ) (p : Vector2) (ks : List Move) (l : Laid) → stores (strokes n p ks) l ≡ row n p ks l
+unfolding stores stored strokes corners flagsOf marks flat allFinite _and_
+stores-row n p [] l = simp add-zero
+stores-row n p (m ∷ ks) l =
+    let i = invalidMove m in
+    let e : l .places .strokes + 1 + length ks ≡ l .places .strokes + suc (length ks) = omega arith in
+    let t : 3 * (l .places .strokes + 1) ≡ suc (suc (suc (3 * l .places .strokes))) = omega arith in
+    let f = swap (allFinite (corners (m .end) ks)) (finiteVertex (vertexAt p (m .bulge))) (l .places .finite) in
+    let x = index-more i (l .buffers .indexes) (l .places .marks) n (marks (suc n) ks) in
+    let c = index-count i (l .places .marks) n (marks (suc n) ks) in
+    let o = add-one (l .places .strokes) in
+    stores-row (suc n) (m .end) ks _ ∙ rw (e, t, f, x, c, o)
+
+-- ---- and from the first places on
+
+-- the lists of a drawing, written over the buffers
+abbrev pub written : Drawing → Buffers → Buffers
+written d old = buffers (over (flat (d .vertices)) (old .vertices)) (over (d .flags) (old .flags)) (over (d .indexes) (old .indexes))
+
+-- with the places after it
+abbrev pub drawnOver : Vector2 → List Move → Buffers → Laid
+drawnOver p ks old = laid (record { strokes = length ks; marks = length (marks 0 ks); finite = allFinite (corners p ks) }) (written (path p ks true) old)
+
+over-all : {A : Type 0} (xs old : List A) → length xs ≤ length old → sets old 0 xs ≡ over xs old
+over-all xs old h = sets-eq xs old 0 (rw zero-add h) ∙ rw zero-add
+
+and-true : (a : Bool) → (a and true) ≡ a
+unfolding _and_
+and-true true = refl
+and-true false = refl
+
+pub stores-drawn : (p : Vector2) (ks : List Move) (old : Buffers) → 3 * length ks ≤ length (old .vertices) → length ks ≤ length (old .flags) → length ks ≤ length (old .indexes)
+    → stores (strokes 0 p ks) (laid noPlaces old) ≡ drawnOver p ks old
+stores-drawn p ks old v f i =
+    let w = path-fits (length ks) p ks true (omega arith) in
+    let n = length-flat (corners p ks) in
+    let a = over-all (flat (corners p ks)) (old .vertices) (omega (arith, w .vertices)) in
+    let b = over-all (flagsOf ks) (old .flags) (omega (arith, w .flags)) in
+    let c = over-all (marks 0 ks) (old .indexes) (omega (arith, w .indexes)) in
+    stores-row 0 p ks (laid noPlaces old) ∙ simp (zero-add, and-true, a, b, c)

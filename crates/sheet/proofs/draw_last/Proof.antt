@@ -1,0 +1,65 @@
+-- `sheet::draw_last` meets its contract. Assumes nothing.
+use borrow.Author.Needs.{needs}
+use mathlib.Core.Path.{sym, _∙_}
+use native.Mathlib.Omega.{arith}
+use Rattle.floats.proofs.Choice.{yes, no}
+use Rattle.sheet.specs.InnerSteps.{lasts}
+use Rattle.sheet.proofs.Whole.{last-stored, last-within}
+use Rattle.sheet.proofs.draw_last.Statement.{statement}
+use Rattle.sheet.proofs.draw_last.Tie as tie
+
+wipe-requires : tie.Need-wipe-requires
+wipe-requires c κs =
+    let p = c .before .before .before .before .before .before .before .before .before .before .pre in
+    record { small = p .small; from-vertex = omega arith; from-flag = omega arith; from-index = omega arith; vertices = p .vertices; flags = p .flags; indexes = p .indexes }
+
+returns : tie.Need-returns
+unfolding lasts
+returns c =
+    let end = c .before .before .before .before .before .before .before in
+    let then = end .before .before .before .before in
+    let test = then .before in
+    yes _ _ _ (sym (test .both .ensures ∙ rw (test .before .is-collapsed .ensures)) ∙ then .if1 .taken) (rw (c .empty .ensures, end .wipe .ensures))
+
+store-requires : tie.Need-store-requires
+store-requires c κs =
+    let p = c .before .before .before .before .before .before .before .before .before .before .before .before .pre in
+    λ t. record { vertices = omega arith; flags = omega arith; indexes = omega arith }
+
+finish-open-requires : tie.Need-finish-open-requires
+finish-open-requires c κs =
+    let half = c .before .before .before .before .before .before .before .before .before in
+    let step = half .before .before .before .before in
+    let k = half .store .kept in
+    last-within _ _ (step .step .result) (step .before .before .before .before .before .before .before .before .before .pre) (record { vertices = k .0; flags = k .1 .0; indexes = k .1 .1 .0 }) (half .store .ensures)
+
+returns-2 : tie.Need-returns-2
+unfolding lasts
+returns-2 c =
+    let end = c .before .before .before .before .before .before in
+    let half = end .before .before .before .before .before .before .before .before .before .before in
+    let last = half .before .before .before .before in
+    let test = last .before .before .before in
+    no _ _ _ (sym (test .both .ensures ∙ rw (test .before .is-collapsed .ensures)) ∙ last .before .before .if1 .left)
+    (rw (end .finish-open .ensures, half .store .ensures, last-stored, last .step .ensures, last .before .last-span .ensures))
+
+pub draw-last-spec : {M : Type 1} → statement M
+draw-last-spec =
+    tie.close
+    (tie.spec
+    (λ c κs. tt)
+    (λ c κs. tt)
+    wipe-requires
+    (λ c κs. tt)
+    (λ c. search needs)
+    (λ c. search needs)
+    (λ c. search needs)
+    returns
+    (λ c κs. tt)
+    (λ c κs. search needs)
+    store-requires
+    finish-open-requires
+    (λ c. search needs)
+    (λ c. search needs)
+    (λ c. search needs)
+    returns-2)

@@ -1,0 +1,236 @@
+-- What the steps of storing and of the loop do to the places and to the lent buffers, and the room that they need. No rule rests on these: `proofs/Stored.antt` and
+-- `proofs/Whole.antt` tie them to `drawingOf` and `shown`. Definitions only.
+use mathlib.Core.Path.{_≡_}
+use Prim.Native.Nat.{ℕ, zero, suc, _+_, _*_, _-_, _≤_, _<_}
+use mathlib.Core.List.{List, [], _∷_, _++_}
+use mathlib.Core.Bool.{Bool, true, false}
+use lib.Dec.{eqb}
+use lib.ListN.{length, set, take, drop, replicate}
+use lib.Seq.{sets}
+use lib.Ieee.{Float}
+use Rattle.floats.specs.Binary64 as B
+use Rattle.floats.specs.Choice.{when_give_else_, _and_}
+use Rattle.floats.specs.Size.{finite}
+use Rattle.segments.specs.declared.Settings.{Settings}
+use Rattle.segments.specs.declared.PlineVertex.{PlineVertex}
+use Rattle.segments.specs.Vertex.{vertexAt}
+use Rattle.segments.specs.Segment.{isCollapsed}
+use Rattle.angles.specs.Angle.{bulgeOf}
+use Rattle.source.specs.InnerSteps.{vertexOf, nextOf}
+use Rattle.moves.specs.declared.Pen.{Pen}
+use Rattle.moves.specs.declared.Stroke.{Stroke}
+use Rattle.moves.specs.declared.RawOffsetResult.{RawOffsetResult}
+use Rattle.moves.specs.Reason.{isInvalid}
+use Rattle.moves.specs.Drawing.{Drawing, bit, nothing, finiteVertex, allFinite, emptyResult, resultOf}
+use Rattle.moves.specs.InnerSteps.{stepOf}
+use Rattle.walk.specs.declared.Walk.{Walk}
+use Rattle.walk.specs.declared.Turned.{Turned}
+use Rattle.walk.specs.InnerSteps.{Stood, stood, Fit, lastSpan, drawnBy, Advance, advance}
+use Rattle.sheet.specs.declared.Places.{Places}
+use Rattle.sheet.specs.declared.Later.{Later}
+use Rattle.sheet.specs.declared.Sheet.{Sheet}
+use Rattle.sheet.specs.declared.Built.{Built}
+use Rattle.sheet.specs.declared.Built.the-variants.{Done, NotFinite}
+use Rattle.sheet.specs.Buffers.{Buffers, buffers, shown}
+
+-- ---- strokes
+
+-- the first places, with nothing stored
+abbrev pub noPlaces : Places
+noPlaces = record { strokes = 0; marks = 0; finite = true }
+
+-- the places and the buffers, which a stroke changes
+pub record Laid : Type 0 where
+  pub places : Places
+  pub buffers : Buffers
+
+abbrev pub laid : Places → Buffers → Laid
+laid p b = record { places = p; buffers = b }
+
+-- a vertex at place k
+abbrev pub putAt : List Float → ℕ → PlineVertex → List Float
+putAt ns k v = sets ns (3 * k) (v .x ∷ v .y ∷ v .bulge ∷ [])
+
+-- a stroke at its places: its vertex and its flag, and its number where it is invalid
+unfoldable pub stored : Stroke → Laid → Laid
+stored s l = record {
+  places = record {
+    strokes = l .places .strokes + 1;
+    marks = l .places .marks + bit (isInvalid (s .reason));
+    finite = finiteVertex (s .vertex) and l .places .finite;
+  };
+  buffers = record {
+    vertices = putAt (l .buffers .vertices) (l .places .strokes) (s .vertex);
+    flags = set (l .buffers .flags) (l .places .strokes) (bit (isInvalid (s .reason)));
+    indexes = when isInvalid (s .reason) give set (l .buffers .indexes) (l .places .marks) (s .number .0) else l .buffers .indexes;
+  };
+}
+
+-- a row of strokes
+unfoldable pub stores : List Stroke → Laid → Laid
+stores [] l = l
+stores (s ∷ ss) l = stores ss (stored s l)
+
+-- ---- a bulge that is written later
+
+-- b as the bulge of the vertex at place k, where t holds
+unfoldable pub bulgedAt : Bool → ℕ → Float → List Float → List Float
+bulgedAt t k b ns = when t give set ns (3 * k + 2) b else ns
+
+-- what is left to be written counted as written
+unfoldable pub bulged : Later → Laid → Laid
+bulged r l = record {
+  places = record {
+    strokes = l .places .strokes;
+    marks = l .places .marks;
+    finite = when r .due give finite (bulgeOf (r .sweep)) and l .places .finite else l .places .finite;
+  };
+  buffers = buffers (bulgedAt (r .due) (r .place) (bulgeOf (r .sweep)) (l .buffers .vertices)) (l .buffers .flags) (l .buffers .indexes);
+}
+
+-- what a turn leaves to be written: the bulge of its span, if that is an arc and is drawn
+abbrev pub laterOf : Places → Turned → Float → Later
+laterOf p t ε = record { due = t .curved and (eqb (t .walk .leading) 0 and stepOf (t .walk .pen) (t .span) ε .kept); place = p .strokes; sweep = t .sweep }
+
+-- ---- turns
+
+-- the walk, and the sheet that its strokes are stored on
+pub record Trail : Type 0 where
+  pub stood : Stood
+  pub laid : Laid
+
+abbrev pub trail : Sheet → Buffers → Trail
+trail s b = record { stood = stood (s .walk); laid = laid (s .places) b }
+
+abbrev pub trailLater : Walk → Places → Later → Buffers → Trail
+trailLater w p r b = record { stood = stood w; laid = bulged r (laid p b) }
+
+-- one turn, stored
+unfoldable pub advanced : Bool → Settings → PlineVertex → Trail → Trail
+advanced closed σ c r =
+    let a = advance closed σ c (r .stood) in
+    record { stood = a .stood; laid = stores (a .strokes) (r .laid) }
+
+-- a turn for each vertex
+unfoldable pub advances : Bool → Settings → List PlineVertex → Trail → Trail
+advances closed σ [] r = r
+advances closed σ (c ∷ vs) r = advances closed σ vs (advanced closed σ c r)
+
+-- the n vertices of a source of v from place k on: after the last comes the first
+unfoldable pub routed : ℕ → ℕ → ℕ → List Float → List PlineVertex
+routed v zero k s = []
+routed v (suc n) k s = vertexOf s k ∷ routed v n (nextOf v k) s
+
+-- those that a walk turns to, closed or open
+abbrev pub firstPlace : Bool → ℕ
+firstPlace true = 0
+firstPlace false = 1
+
+abbrev pub turnCount : Bool → ℕ → ℕ
+turnCount true v = v + 2
+turnCount false v = v - 1
+
+abbrev pub routeOf : Bool → ℕ → List Float → List PlineVertex
+routeOf closed v s = routed v (turnCount closed v) (firstPlace closed) s
+
+-- ---- room
+
+-- there is room for t strokes more
+pub record Rooms (t : ℕ) (p : Places) (b : Buffers) : Type 0 where
+  pub vertices : 3 * (p .strokes + t) ≤ length (b .vertices)
+  pub flags : p .strokes + t ≤ length (b .flags)
+  pub indexes : p .marks + t ≤ length (b .indexes)
+
+-- buffers of the same lengths
+pub record Alike (b b′ : Buffers) : Type 0 where
+  pub vertices : length (b′ .vertices) ≡ length (b .vertices)
+  pub flags : length (b′ .flags) ≡ length (b .flags)
+  pub indexes : length (b′ .indexes) ≡ length (b .indexes)
+
+-- what t turns need: a walk that can be joined on, numbers that fit, and room for two strokes a turn, but for those that lead in
+pub record Turns (t : ℕ) (w : Walk) (p : Places) (b : Buffers) : Type 0 where
+  pub fit : Fit w
+  pub sources : w .source .0 + t < 0x1_0000_0000
+  pub outputs : w .pen .number .0 + 2 * t < 0x1_0000_0000
+  pub rooms : Rooms (2 * (t - w .leading)) p b
+
+-- a source of v vertices, and `room` places in each buffer
+pub record Ready (v room : ℕ) (s : List Float) (b : Buffers) : Type 0 where
+  pub long : 3 * v ≡ length s
+  pub two : 2 ≤ v
+  pub most : v ≤ 4096
+  pub vertices : 3 * room ≤ length (b .vertices)
+  pub flags : room ≤ length (b .flags)
+  pub indexes : room ≤ length (b .indexes)
+
+-- ---- the end of a walk
+
+-- xs, and then what stood there before
+abbrev pub over {ℓ} : {A : Type ℓ} → List A → List A → List A
+over xs old = xs ++ drop (length xs) old
+
+-- count places from `from` on set to z
+abbrev pub cleared {ℓ} : {A : Type ℓ} → A → ℕ → ℕ → List A → List A
+cleared z from count l = take from l ++ replicate count z ++ drop (from + count) l
+
+-- zeros from vertex v, flag f and index i on, up to `room` places
+unfoldable pub wiped : ℕ → ℕ → ℕ → ℕ → Buffers → Buffers
+wiped room v f i old = record {
+  vertices = cleared B.zero (3 * v) (3 * room - 3 * v) (old .vertices);
+  flags = cleared 0 f (room - f) (old .flags);
+  indexes = cleared 0 i (room - i) (old .indexes);
+}
+
+-- there is room for `room` places, and the counts are within it
+pub record Within (room v f i : ℕ) (b : Buffers) : Type 0 where
+  pub small : room ≤ 12288
+  pub from-vertex : v ≤ room
+  pub from-flag : f ≤ room
+  pub from-index : i ≤ room
+  pub vertices : 3 * room ≤ length (b .vertices)
+  pub flags : room ≤ length (b .flags)
+  pub indexes : room ≤ length (b .indexes)
+
+-- what was built, and the buffers with it
+pub record Finished : Type 0 where
+  pub built : Built
+  pub buffers : Buffers
+
+abbrev pub finished : Built → Buffers → Finished
+finished r b = record { built = r; buffers = b }
+
+-- an answer whose numbers are all finite stands, with zeros after it; any other is refused, and its room set to zero
+unfoldable pub finishes : ℕ → RawOffsetResult → Laid → Finished
+finishes room r l =
+    when l .places .finite give finished (Done r) (wiped room (r .vertices) (l .places .strokes) (l .places .marks) (l .buffers)) else
+    finished NotFinite (wiped room 0 0 0 (l .buffers))
+
+-- an open walk that drew nothing is empty; any other has its last point as a vertex with bulge 0
+unfoldable pub finishesOpen : ℕ → Pen → Laid → Finished
+finishesOpen room pen l =
+    let v = vertexAt (pen .last) B.zero in
+    when eqb (l .places .strokes) 0 give finished (Done emptyResult) (wiped room 0 0 0 (l .buffers)) else
+    finishes room (record { vertices = l .places .strokes + 1; indexes = l .places .marks; closed = false })
+    (laid (record { strokes = l .places .strokes; marks = l .places .marks; finite = finiteVertex v and l .places .finite })
+    (buffers (putAt (l .buffers .vertices) (l .places .strokes) v) (l .buffers .flags) (l .buffers .indexes)))
+
+-- the last span of an open walk: nothing is drawn of a collapsed arc that is alone
+unfoldable pub lasts : ℕ → Bool → Float → Trail → Finished
+lasts room alone ε r =
+    let last = stepOf (r .stood .pen) (lastSpan (r .stood .walker)) ε in
+    when alone and isCollapsed (r .stood .walker .current) give finished (Done emptyResult) (wiped room 0 0 0 (r .laid .buffers)) else
+    finishesOpen room (last .pen) (stores (drawnBy 0 last) (r .laid))
+
+-- what it needs
+pub record Lasts (room : ℕ) (s : Sheet) (b : Buffers) : Type 0 where
+  pub outputs : s .walk .pen .number .0 + 1 < 0x1_0000_0000
+  pub small : room ≤ 12288
+  pub strokes : s .places .strokes + 2 ≤ room
+  pub marks : s .places .marks + 1 ≤ room
+  pub vertices : 3 * room ≤ length (b .vertices)
+  pub flags : room ≤ length (b .flags)
+  pub indexes : room ≤ length (b .indexes)
+
+-- what becomes of a drawing d (01 §1, No. 6)
+unfoldable pub builtOf : ℕ → Drawing → Buffers → Finished
+builtOf room d old = when allFinite (d .vertices) give finished (Done (resultOf d)) (shown room d old) else finished NotFinite (shown room nothing old)

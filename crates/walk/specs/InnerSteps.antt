@@ -1,0 +1,142 @@
+-- The steps of the walk by value: where it stands, one turn of it, and what its pen draws then. No rule rests on these: `proofs/Turning.antt` and `proofs/Around.antt` tie them to
+-- `walkMoves`. A walk carries the current segment along; that it is the segment worked out anew from its vertices is proved there. What it carries leaves a start angle to be
+-- worked out, or has it from a join; `stands` is where it stands by the rules. Definitions only.
+use mathlib.Core.Path.{_≡_}
+use Prim.Native.Nat.{ℕ, zero, suc, _+_}
+use mathlib.Core.Bool.{Bool}
+use mathlib.Core.List.{List, [], _∷_, _++_}
+use lib.Dec.{eqb}
+use lib.Ieee.{Float}
+use Rattle.floats.specs.Binary64.{one}
+use Rattle.floats.specs.Choice.{when_give_else_, _and_}
+use Rattle.segments.specs.declared.Settings.{Settings}
+use Rattle.segments.specs.declared.PlineVertex.{PlineVertex}
+use Rattle.segments.specs.declared.RawOffsetSeg.{RawOffsetSeg}
+use Rattle.segments.specs.declared.RawOffsetSeg.the-variants.{Line}
+use Rattle.segments.specs.declared.SourceSegment.{SourceSegment}
+use Rattle.segments.specs.Vertex.{posOf}
+use Rattle.segments.specs.Segment.{offsetSeg, startOf, endOf}
+use Rattle.segments.specs.InnerSteps.{fullSeg, Marked, bulgeBy}
+use Rattle.joins.specs.declared.JoinBoundary.{JoinBoundary}
+use Rattle.joins.specs.declared.JoinCause.the-variants.{Coincident}
+use Rattle.joins.specs.Boundary.{straight}
+use Rattle.joins.specs.Join.{joinOf}
+use Rattle.joins.specs.InnerSteps.{seenSeg}
+use Rattle.moves.specs.declared.Move.{Move}
+use Rattle.moves.specs.declared.Pen.{Pen}
+use Rattle.moves.specs.declared.Stroke.{Stroke}
+use Rattle.moves.specs.declared.Stepped.{Stepped}
+use Rattle.moves.specs.Made.{spanMove, connectorMove}
+use Rattle.moves.specs.InnerSteps.{penAt, stepOf, withBulge}
+use Rattle.walk.specs.declared.Walk.{Walk}
+use Rattle.walk.specs.declared.Turned.{Turned}
+
+-- ---- where a walk stands
+
+-- at a segment, which runs to a vertex and whose span starts at a boundary
+pub record Standing : Type 0 where
+  pub source : SourceSegment
+  pub current : RawOffsetSeg
+  pub vertex : PlineVertex
+  pub entry : JoinBoundary
+
+abbrev pub stands : Walk → Standing
+stands w = record { source = w .source; current = fullSeg (w .current); vertex = w .vertex; entry = w .entry }
+
+-- and its pen, and how many turns still lead it in
+pub record Stood : Type 0 where
+  pub walker : Standing
+  pub pen : Pen
+  pub leading : ℕ
+
+abbrev pub stood : Walk → Stood
+stood w = record { walker = stands w; pen = w .pen; leading = w .leading }
+
+-- what it carries can be joined on: an arc is marked by its sweep, and what is known of its start angle is that start angle
+pub record Fit (w : Walk) : Type 0 where
+  pub marked : Marked (w .current)
+  pub seen : seenSeg (w .seen) (w .current) ≡ fullSeg (w .current)
+
+-- at a vertex that no segment leads to, with n turns that lead in from there: a line of no length stands for a segment
+unfoldable pub standingAt : PlineVertex → ℕ → Stood
+standingAt a n = record {
+  walker = record {
+    source = record { 0 = 0 };
+    current = Line (record { start = posOf a; end = posOf a });
+    vertex = a;
+    entry = straight Coincident (posOf a) (posOf a);
+  };
+  pen = penAt (posOf a);
+  leading = n;
+}
+
+-- where the span of the first segment starts: at the join that led there, or, open, at its own start
+unfoldable pub firstEntry : Bool → Standing → JoinBoundary
+firstEntry closed w = when closed give w .entry else straight Coincident (startOf (w .current)) (startOf (w .current))
+
+-- at the same segment, which counts as the first, with the pen where its span starts
+unfoldable pub entering : Bool → Standing → Stood
+entering closed w = record {
+  walker = record { source = record { 0 = 0 }; current = w .current; vertex = w .vertex; entry = firstEntry closed w };
+  pen = penAt (firstEntry closed w .«next_start»);
+  leading = 0;
+}
+
+-- after a turn, before which n turns were to lead in: the last of them brings the walk to its first segment
+unfoldable pub afterTurn : Bool → Pen → ℕ → Standing → Stood
+afterTurn closed pen zero w = record { walker = w; pen = pen; leading = 0 }
+afterTurn closed pen (suc zero) w = entering closed w
+afterTurn closed pen (suc (suc n)) w = record { walker = w; pen = pen; leading = suc n }
+
+-- ---- one turn
+
+-- the span and the connector that it makes, and where the walk stands then
+pub record Turn : Type 0 where
+  pub span : Move
+  pub connector : Move
+  pub walker : Standing
+
+-- on to the segment from the walk's vertex to c
+unfoldable pub turnTo : Standing → PlineVertex → Settings → Turn
+turnTo w c σ =
+    let next = offsetSeg (w .vertex) c (σ .offset) in
+    let j = joinOf (w .current) next (posOf (w .vertex)) σ in
+    record {
+      span = spanMove (w .source .0) (w .current) (w .entry .«next_param») (j .«current_end») (j .«current_param»);
+      connector = connectorMove (w .source .0) j;
+      walker = record { source = record { 0 = w .source .0 + 1 }; current = next; vertex = c; entry = j };
+    }
+
+-- the code's: its span has its bulge still to come
+abbrev pub turnShown : Turned → Turn
+turnShown t = record { span = withBulge (bulgeBy (t .curved) (t .sweep)) (t .span); connector = t .connector; walker = stands (t .walk) }
+
+-- the span to the end of the segment that the walk stands at
+unfoldable pub lastSpan : Standing → Move
+lastSpan w = spanMove (w .source .0) (w .current) (w .entry .«next_param») (endOf (w .current)) one
+
+-- what is drawn of a step: its stroke, where it is kept and the walk is led in
+unfoldable pub drawnBy : ℕ → Stepped → List Stroke
+drawnBy leading st = when eqb leading 0 and st .kept give st .stroke ∷ [] else []
+
+-- one turn, with its strokes
+pub record Advance : Type 0 where
+  pub strokes : List Stroke
+  pub stood : Stood
+
+unfoldable pub advance : Bool → Settings → PlineVertex → Stood → Advance
+advance closed σ c w =
+    let t = turnTo (w .walker) c σ in
+    let first = stepOf (w .pen) (t .span) (σ .eps) in
+    let second = stepOf (first .pen) (t .connector) (σ .eps) in
+    record { strokes = drawnBy (w .leading) first ++ drawnBy (w .leading) second; stood = afterTurn closed (second .pen) (w .leading) (t .walker) }
+
+-- ---- a turn for each vertex: where it leads, and the strokes on the way
+
+unfoldable pub goes : Bool → Settings → List PlineVertex → Stood → Stood
+goes closed σ [] w = w
+goes closed σ (c ∷ vs) w = goes closed σ vs (advance closed σ c w .stood)
+
+unfoldable pub drawnOn : Bool → Settings → List PlineVertex → Stood → List Stroke
+drawnOn closed σ [] w = []
+drawnOn closed σ (c ∷ vs) w = advance closed σ c w .strokes ++ drawnOn closed σ vs (advance closed σ c w .stood)
