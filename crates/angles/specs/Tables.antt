@@ -1,7 +1,6 @@
 -- π and the three tables of coefficients (01 §3, the lines on π and on atan and tan). Definitions only.
 use mathlib.Core.List.{List, [], _∷_}
-use mathlib.Core.Bool.{Bool}
-use Prim.Native.Nat.{ℕ, zero, suc, _+_, _*_, _%_}
+use Prim.Native.Nat.{ℕ, zero, suc, _*_, _%_}
 use lib.Dec.{eqb}
 use lib.Ieee.{Float, binary64, ofBits, round}
 

@@ -1,6 +1,5 @@
 -- A join is what is settled without intersection, and the inner join where nothing is. Assumes nothing.
 use mathlib.Core.Path.{_≡_, refl}
-use lib.Ieee.{Float}
 use Rattle.vectors.specs.declared.Vector2.{Vector2}
 use Rattle.segments.specs.declared.RawOffsetSeg.{RawOffsetSeg}
 use Rattle.segments.specs.declared.Settings.{Settings}

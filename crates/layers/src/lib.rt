@@ -7,7 +7,7 @@ ghost use Rattle.angles.specs.Angle.{atanOf, tanOf, angleOf};
 ghost use Rattle.intersections.specs.Lines.{lineLine};
 ghost use Rattle.intersections.specs.LineCircle.{lineCircle};
 ghost use Rattle.intersections.specs.Circles.{circleCircle};
-ghost use Rattle.layers.specs.InnerSteps.{listed, four, lineLineListed, lineCircleListed, circleCircleListed};
+ghost use Rattle.layers.specs.InnerSteps.{listed, lineLineListed, lineCircleListed, circleCircleListed};
 use intersections::CircleCircleIntr;
 use intersections::LineCircleIntr;
 use intersections::LineLineIntr;

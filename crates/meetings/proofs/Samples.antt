@@ -1,6 +1,5 @@
 -- Samples of each way. What the rows say was worked out from 000 and 01 apart from the definitions: a row has what goes in, and what comes out.
 -- Assumes nothing.
-use Prim.Native.Nat.{ℕ}
 use mathlib.Core.Path.{_≡_, refl}
 use mathlib.Core.Bool.{Bool, true, false}
 use mathlib.Core.List.{List, [], _∷_}
@@ -23,7 +22,7 @@ use Rattle.meetings.specs.declared.Param.the-variants.{Usable, Missed}
 use Rattle.meetings.specs.declared.ArcParam.{ArcParam}
 use Rattle.meetings.specs.declared.ArcParam.the-variants.{StartMatched, EndMatched, Inside, PastEnd, OffArc}
 use Rattle.meetings.specs.declared.Met.{Met}
-use Rattle.meetings.specs.declared.Met.the-variants.{At, NoMeeting, CandidatesMissed}
+use Rattle.meetings.specs.declared.Met.the-variants.{NoMeeting, CandidatesMissed}
 use Rattle.meetings.specs.Params.{farPast, snappedParam, usableLineParam, traveled, sweptParam, usableArcParam, squaredDistancesEqual}
 use Rattle.meetings.specs.Meetings.{metAt, clampParam, meetingPoint, lineLineMeeting, nearerOf, lineArcPoint, lineArcCandidate, lineArcMeeting, arcLineMeeting, arcArcPoint, arcArcCandidate, arcArcMeeting}
 

@@ -1,5 +1,5 @@
 -- An arc's start angle, as it was seen or not, and what a step may hand back of it. Assumes nothing.
-use mathlib.Core.Path.{_≡_, refl, sym, ap, _∙_}
+use mathlib.Core.Path.{_≡_, refl, sym, ap}
 use mathlib.Core.Bool.{Bool, true, false}
 use lib.Ieee.{Float, eq}
 use Rattle.angles.specs.Angle.{angleOf}

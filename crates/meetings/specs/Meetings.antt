@@ -1,6 +1,5 @@
 -- Where two offset segments meet, with the parameters on both (000's line_line_join, line_arc_intersection and arc_arc_join up to the boundary that they make).
 -- Definitions only.
-use mathlib.Core.Bool.{Bool}
 use lib.Ieee.{Float, lt}
 use Rattle.floats.specs.Binary64.{zero, one}
 use Rattle.floats.specs.Choice.{when_give_else_}
@@ -20,7 +19,6 @@ use Rattle.segments.specs.declared.RawOffsetLine.{RawOffsetLine}
 use Rattle.segments.specs.declared.RawOffsetArc.{RawOffsetArc}
 use Rattle.meetings.specs.declared.Param.{Param}
 use Rattle.meetings.specs.declared.Param.the-variants.{Usable, Missed}
-use Rattle.meetings.specs.declared.Meeting.{Meeting}
 use Rattle.meetings.specs.declared.Met.{Met}
 use Rattle.meetings.specs.declared.Met.the-variants.{At, NoMeeting, CandidatesMissed}
 use Rattle.meetings.specs.Params.{usableLineParam, usableArcParam, arcParam, squaredDistancesEqual}

@@ -15,23 +15,8 @@ Inv-loop table x a₀ i₀ a i = hornerFrom a (drop i table) x ≡ horner table 
 abbrev μ-loop : tie.MeasureT-loop
 μ-loop table x a₀ i₀ a i = length table - i
 
-shared-slice-read-a : tie.Need-shared-slice-read-a Inv-loop μ-loop
-shared-slice-read-a c = search needs
-
 loop-holds : tie.Need-loop-holds Inv-loop μ-loop
 loop-holds c = walk-start _ _ (search needs)
-
-mul-horner-step : tie.Need-mul-horner-step Inv-loop μ-loop
-mul-horner-step c = search needs
-
-shared-slice-read-horner-step : tie.Need-shared-slice-read-horner-step Inv-loop μ-loop
-shared-slice-read-horner-step c = search needs
-
-add-i : tie.Need-add-i Inv-loop μ-loop
-add-i c = search needs
-
-loop-less : tie.Need-loop-less Inv-loop μ-loop
-loop-less c = omega arith
 
 loop-again : tie.Need-loop-again Inv-loop μ-loop
 loop-again c = rw (c .horner-step .ensures) (walk-next _ _ _ _ (c .before .before .loop-test .taken) ∙ c .before .before .before .loop .inv)
@@ -42,4 +27,4 @@ returns c = walk-end _ _ _ _ (c .loop-test .left) ∙ c .before .loop .inv
 pub horner-walk-spec : {M : Type 1} → statement M
 horner-walk-spec =
     tie.close
-    (tie.spec Inv-loop μ-loop shared-slice-read-a loop-holds mul-horner-step shared-slice-read-horner-step (λ c κs. tt) add-i loop-less loop-again returns)
+    (tie.spec Inv-loop μ-loop (λ c. search needs) loop-holds (λ c. search needs) (λ c. search needs) (λ c κs. tt) (λ c. search needs) (λ c. omega arith) loop-again returns)

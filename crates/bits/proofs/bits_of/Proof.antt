@@ -1,5 +1,4 @@
 -- `bits_of` meets its contract. Assumes nothing.
-use mathlib.Core.Path.{refl}
 use borrow.Author.Needs.{needs}
 use lib.Ieee.{toBits}
 use Rattle.bits.proofs.Nans.{is-nan, no-nan}
@@ -13,8 +12,5 @@ returns c = rw (is-nan _ (c .if1 .taken))
 float-to-bits-result : tie.Need-float-to-bits-result
 float-to-bits-result c = no-nan _ (c .if1 .left)
 
-returns-2 : tie.Need-returns-2
-returns-2 c = search needs
-
 pub bits-of-spec : {M : Type 1} → statement M
-bits-of-spec = tie.close (tie.spec returns float-to-bits-result returns-2)
+bits-of-spec = tie.close (tie.spec returns float-to-bits-result (λ c. search needs))

@@ -11,8 +11,5 @@ returns c = made ∙ above _ (c .if1 .taken)
 float-from-bits-result : tie.Need-float-from-bits-result
 float-from-bits-result c = not-above _ (c .if1 .left)
 
-returns-2 : tie.Need-returns-2
-returns-2 c = search needs
-
 pub number-of-spec : {M : Type 1} → statement M
-number-of-spec = tie.close (tie.spec returns float-from-bits-result returns-2)
+number-of-spec = tie.close (tie.spec returns float-from-bits-result (λ c. search needs))

@@ -12,26 +12,14 @@ small c =
     let u = c .before .before .args .u in
     result-lt (u % 2 ^ 52 + 2 ^ 52) (u / 2 ^ 52) (c .root .result) (omega arith) (c .root .ensures)
 
-add-m : tie.Need-add-m
-add-m c = search needs
-
 mul-root : tie.Need-mul-root
 mul-root c = omega (arith, evened-hi (c .args .u % 2 ^ 52 + 2 ^ 52) (c .args .u / 2 ^ 52))
 
 add-root : tie.Need-add-root
 add-root c = omega (arith, evened-hi (c .args .u % 2 ^ 52 + 2 ^ 52) (c .args .u / 2 ^ 52))
 
-inverse-requires : tie.Need-inverse-requires
-inverse-requires c κs = search needs
-
 root-requires : tie.Need-root-requires
 root-requires c κs = omega (arith, evened-hi (c .before .args .u % 2 ^ 52 + 2 ^ 52) (c .before .args .u / 2 ^ 52))
-
-sub-result : tie.Need-sub-result
-sub-result c = search needs
-
-mul-result : tie.Need-mul-result
-mul-result c = search needs
 
 add-result : tie.Need-add-result
 add-result c = omega (arith, small c)
@@ -48,13 +36,13 @@ pub finish-spec : {M : Type 1} → statement M
 finish-spec =
     tie.close
     (tie.spec
-    add-m
+    (λ c. search needs)
     mul-root
     add-root
-    inverse-requires
+    (λ c κs. search needs)
     root-requires
-    sub-result
-    mul-result
+    (λ c. search needs)
+    (λ c. search needs)
     add-result
     float-from-bits-result
     returns)

@@ -1,7 +1,7 @@
 -- `is_finite`: strictly between the infinities lie just the finite numbers. Assumes nothing.
 use mathlib.Core.Path.{_≡_, refl, sym}
 use mathlib.Core.Bool.{true, false, false≢true}
-use lib.Ieee.{Float, nan, inf, fin, lt, neg, div, ofBits, binary64}
+use lib.Ieee.{Float, nan, inf, fin, lt, neg, div, ofBits}
 use Rattle.floats.specs.Size.{finite}
 use Rattle.floats.proofs.is_finite.Statement.{statement}
 use Rattle.floats.proofs.is_finite.Tie as tie

@@ -6,12 +6,6 @@ use Rattle.floats.proofs.Reading.{root-of-bits, root-of-low, Brought, b
 use Rattle.floats.proofs.raised.Statement.{statement}
 use Rattle.floats.proofs.raised.Tie as tie
 
-mul-result : tie.Need-mul-result
-mul-result c = search needs
-
-add-result : tie.Need-add-result
-add-result c = search needs
-
 returns : tie.Need-returns
 returns c = record { low = omega arith; high = omega arith; root = root-of-bits (c .before .args .b) (c .if1 .taken) (c .before .pre .1) }
 
@@ -27,9 +21,6 @@ sub-z c = count c .least
 
 sub-result : tie.Need-sub-result
 sub-result c = omega (arith, count c .most)
-
-mul-result-2 : tie.Need-mul-result-2
-mul-result-2 c = search needs
 
 shl-result : tie.Need-shl-result
 shl-result c = omega (arith, count c .most)
@@ -47,4 +38,4 @@ returns-2 c =
     }
 
 pub raised-spec : {M : Type 1} → statement M
-raised-spec = tie.close (tie.spec mul-result add-result returns cast-z sub-z sub-result mul-result-2 shl-result add-result-2 returns-2)
+raised-spec = tie.close (tie.spec (λ c. search needs) (λ c. search needs) returns cast-z sub-z sub-result (λ c. search needs) shl-result add-result-2 returns-2)

@@ -24,26 +24,14 @@ l-lt c = omega (arith, d-y c)
 mul-h : tie.Need-mul-h
 mul-h c = omega (arith, y-w c)
 
-mul-wrapping-sub-u64 : tie.Need-mul-wrapping-sub-u64
-mul-wrapping-sub-u64 c = search needs
-
 mul-wrapping-sub-u64-2 : tie.Need-mul-wrapping-sub-u64-2
 mul-wrapping-sub-u64-2 c = omega (arith, product-lt (h-lt c) (h-lt c))
-
-wrapping-sub-u64-requires : tie.Need-wrapping-sub-u64-requires
-wrapping-sub-u64-requires c κs = search needs
 
 mul-l : tie.Need-mul-l
 mul-l c = omega (arith, d-y c)
 
-mul-wrapping-sub-u64-3 : tie.Need-mul-wrapping-sub-u64-3
-mul-wrapping-sub-u64-3 c = search needs
-
 mul-wrapping-sub-u64-4 : tie.Need-mul-wrapping-sub-u64-4
 mul-wrapping-sub-u64-4 c = omega (arith, product-lt (h-lt (c .before .before)) (l-lt c))
-
-wrapping-sub-u64-requires-2 : tie.Need-wrapping-sub-u64-requires-2
-wrapping-sub-u64-requires-2 c κs = search needs
 
 mul-q : tie.Need-mul-q
 mul-q c = omega (arith, h-lt (c .before .before .before .before))
@@ -51,14 +39,8 @@ mul-q c = omega (arith, h-lt (c .before .before .before .before))
 add-q : tie.Need-add-q
 add-q c = omega (arith, h-lt (c .before .before .before .before), l-lt (c .before .before))
 
-mul-wrapping-sub-u64-5 : tie.Need-mul-wrapping-sub-u64-5
-mul-wrapping-sub-u64-5 c = search needs
-
 mul-wrapping-sub-u64-6 : tie.Need-mul-wrapping-sub-u64-6
 mul-wrapping-sub-u64-6 c = omega (arith, product-lt (l-lt (c .before .before)) (l-lt (c .before .before)))
-
-wrapping-sub-u64-requires-3 : tie.Need-wrapping-sub-u64-requires-3
-wrapping-sub-u64-requires-3 c κs = search needs
 
 mul-if3 : tie.Need-mul-if3
 mul-if3 c = omega (arith, h-lt (c .before .before .before .before .before), l-lt (c .before .before .before))
@@ -95,32 +77,26 @@ closer-requires c κs = (omega (arith, exceeds c), c .if3 .taken, omega (arith, 
 returns : tie.Need-returns
 returns c = subst (λ (n : ℕ). NearRoot n (c .closer .result)) (sym (exceeds (c .before))) (c .closer .ensures)
 
-slow-root-requires : tie.Need-slow-root-requires
-slow-root-requires c κs = search needs
-
-returns-2 : tie.Need-returns-2
-returns-2 c = search needs
-
 pub root-spec : {M : Type 1} → statement M
 root-spec =
     tie.close
     (tie.spec
     mul-h
-    mul-wrapping-sub-u64
+    (λ c. search needs)
     mul-wrapping-sub-u64-2
-    wrapping-sub-u64-requires
+    (λ c κs. search needs)
     mul-l
-    mul-wrapping-sub-u64-3
+    (λ c. search needs)
     mul-wrapping-sub-u64-4
-    wrapping-sub-u64-requires-2
+    (λ c κs. search needs)
     mul-q
     add-q
-    mul-wrapping-sub-u64-5
+    (λ c. search needs)
     mul-wrapping-sub-u64-6
-    wrapping-sub-u64-requires-3
+    (λ c κs. search needs)
     mul-if3
     add-if3
     closer-requires
     returns
-    slow-root-requires
-    returns-2)
+    (λ c κs. search needs)
+    (λ c. search needs))

@@ -19,36 +19,6 @@ moved w r r' d d' s k p q h = subst (λ (x : ℕ). Inv w r' x s k) q (subst (λ 
 loop-holds : tie.Need-loop-holds Inv-loop μ-loop
 loop-holds c = start (c .args .w) (c .pre .1)
 
-mul-e : tie.Need-mul-e Inv-loop μ-loop
-mul-e c = omega arith
-
-add-e : tie.Need-add-e Inv-loop μ-loop
-add-e c = omega arith
-
-mul-t : tie.Need-mul-t Inv-loop μ-loop
-mul-t c = omega arith
-
-add-t : tie.Need-add-t Inv-loop μ-loop
-add-t c = omega arith
-
-mul-s : tie.Need-mul-s Inv-loop μ-loop
-mul-s c = omega arith
-
-mul-r : tie.Need-mul-r Inv-loop μ-loop
-mul-r c = omega arith
-
-add-r : tie.Need-add-r Inv-loop μ-loop
-add-r c = omega arith
-
-mul-r-2 : tie.Need-mul-r-2 Inv-loop μ-loop
-mul-r-2 c = omega arith
-
-sub-k : tie.Need-sub-k Inv-loop μ-loop
-sub-k c = omega arith
-
-loop-less : tie.Need-loop-less Inv-loop μ-loop
-loop-less c = omega arith
-
 loop-again : tie.Need-loop-again Inv-loop μ-loop
 loop-again c =
     let at-loop = c .before .before in
@@ -59,9 +29,6 @@ loop-again c =
     (λ (x : _). moved w (i .r * 2 + 1) (c .if1 .r) (e - (i .r * 4 + 1)) (c .if1 .d) (i .s % 2 ^ 52 * 4) (i .k - 1) (omega arith) (omega arith) (turn-odd w (i .r) (i .d) (i .s) (i .k) (c .before .loop-test .taken) (i .inv) (omega arith)))
     (λ (x : _). moved w (i .r * 2) (c .if1 .r) e (c .if1 .d) (i .s % 2 ^ 52 * 4) (i .k - 1) (omega arith) (omega arith) (turn-even w (i .r) (i .d) (i .s) (i .k) (c .before .loop-test .taken) (i .inv) (omega arith)))
     (c .if1 .came)
-
-add-result : tie.Need-add-result Inv-loop μ-loop
-add-result c = omega arith
 
 returns : tie.Need-returns Inv-loop μ-loop
 returns c =
@@ -75,16 +42,16 @@ slow-root-spec =
     Inv-loop
     μ-loop
     loop-holds
-    mul-e
-    add-e
-    mul-t
-    add-t
-    mul-s
-    mul-r
-    add-r
-    mul-r-2
-    sub-k
-    loop-less
+    (λ c. omega arith)
+    (λ c. omega arith)
+    (λ c. omega arith)
+    (λ c. omega arith)
+    (λ c. omega arith)
+    (λ c. omega arith)
+    (λ c. omega arith)
+    (λ c. omega arith)
+    (λ c. omega arith)
+    (λ c. omega arith)
     loop-again
-    add-result
+    (λ c. omega arith)
     returns)

@@ -1,10 +1,8 @@
 -- `floats::sqrt` meets its contract. Assumes nothing.
-use borrow.Author.Needs.{needs}
-use mathlib.Core.Path.{_≡_, sym, ap, _∙_, subst}
+use mathlib.Core.Path.{sym, ap, _∙_, subst}
 use lib.Dec.{T}
 use lib.Ieee.{binary64, fits}
 use lib.Ieee.Bits.{ofBits-toBits}
-use native.Mathlib.Omega.{arith}
 use Rattle.floats.specs.Root.{sqrtOf}
 use Rattle.floats.proofs.Reading.{above-no-nan, root-of-top, bits-pos, root-of-zero, no-root}
 use Rattle.floats.proofs.sqrt.Statement.{statement}

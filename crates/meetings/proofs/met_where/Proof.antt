@@ -1,5 +1,4 @@
 -- `meetings::met_where` meets its contract. Assumes nothing.
-use mathlib.Core.Path.{refl}
 use borrow.Author.Needs.{needs}
 use Rattle.meetings.proofs.met_where.Statement.{statement}
 use Rattle.meetings.proofs.met_where.Tie as tie

@@ -25,28 +25,10 @@ loop-holds c =
     let close = c .first-close .ensures in
     (counted, rw counted (segments-most _ _), first-skip _ _ (λ k h. neighbour-test _ _ (start .pre .1 .1) two _ _ k (omega arith) ∙ close .1 k h))
 
-next-place-requires : tie.Need-next-place-requires Inv-loop μ-loop
-next-place-requires c κs = omega arith
-
-vertex-at-requires : tie.Need-vertex-at-requires Inv-loop μ-loop
-vertex-at-requires c κs = omega arith
-
-vertex-at-requires-2 : tie.Need-vertex-at-requires-2 Inv-loop μ-loop
-vertex-at-requires-2 c κs = omega arith
-
-cast : tie.Need-cast-t12 Inv-loop μ-loop
-cast c = omega arith
-
 returns : tie.Need-returns Inv-loop μ-loop
 returns c = first-found _ _ (segment-test _ _ (c .before .before .before .before .before .before .before .before .before .before .pre .1 .1)
     (c .before .before .before .before .before .before .before .before .before .before .pre .0) _ _ _
     (rw (c .before .before .before .before .before .before .loop .inv .0) at (c .before .before .before .before .before .loop-test .taken)) ∙ (cc)) ∙ c .before .before .before .before .before .before .loop .inv .2
-
-add-earlier : tie.Need-add-earlier Inv-loop μ-loop
-add-earlier c = search needs
-
-loop-less : tie.Need-loop-less Inv-loop μ-loop
-loop-less c = omega arith
 
 loop-again : tie.Need-loop-again Inv-loop μ-loop
 loop-again c = (
@@ -64,4 +46,4 @@ returns-2 c = first-end _ _ (no-more-segments _ _ (c .before .before .before .be
 pub first-repeated-spec : {M : Type 1} → statement M
 first-repeated-spec =
     tie.close
-    (tie.spec Inv-loop μ-loop (λ c κs. tt) (λ c κs. omega arith) loop-holds next-place-requires vertex-at-requires vertex-at-requires-2 (λ c κs. tt) cast returns add-earlier loop-less loop-again returns-2)
+    (tie.spec Inv-loop μ-loop (λ c κs. tt) (λ c κs. omega arith) loop-holds (λ c κs. omega arith) (λ c κs. omega arith) (λ c κs. omega arith) (λ c κs. tt) (λ c. omega arith) returns (λ c. search needs) (λ c. omega arith) loop-again returns-2)
