@@ -9,7 +9,7 @@ use Rattle.floats.specs.Size.{absOf}
 use Rattle.floats.specs.Root.{sqrtOf}
 use Rattle.vectors.specs.declared.Vector2.{Vector2}
 use Rattle.vectors.specs.Plane.{_⊟_}
-use Rattle.angles.specs.Angle.{horner, halve, atanSmall, quarterTurn, atanOf, tanStep, tanOf, wideAngle, directionOf, angleOf, sweepOf, bulgeOf, normalizedAngle}
+use Rattle.angles.specs.Angle.{horner, halve, atanSmall, quarterTurn, atanOf, tanStep, tanEighth, tanByEighth, tanOf, wideAngle, directionOf, angleOf, sweepOf, bulgeOf, normalizedAngle}
 
 infix 5 _gives_
 pub data Row (A : Type 0) : Type 0 where
@@ -26,7 +26,7 @@ written ((a gives r) ∷ rows) = ofBits binary64 r ∷ written rows
 
 -- all that the rows look through
 unfoldable pub opened : Unit {0}
-unfolding when_give_else_ _and_ absOf sqrtOf _⊟_ horner halve atanSmall quarterTurn atanOf tanStep tanOf wideAngle directionOf angleOf sweepOf bulgeOf normalizedAngle ofBits neg add sub mul div lt le eq
+unfolding when_give_else_ _and_ absOf sqrtOf _⊟_ horner halve atanSmall quarterTurn atanOf tanStep tanEighth tanByEighth tanOf wideAngle directionOf angleOf sweepOf bulgeOf normalizedAngle ofBits neg add sub mul div lt le eq
 opened = tt
 
 abbrev pub at : (Float → Float) → ℕ → Float

@@ -48,13 +48,18 @@ unfoldable pub tanStep : Float → Float
 tanStep t = (t ⊕ t) ⊘ (one ⊖ t ⊗ t)
 
 -- tan: y = x/8, s and c by the two series in y·y, t = s/c, doubled three times
-unfoldable pub tanOf : Float → Float
-tanOf x =
+unfoldable pub tanEighth : Float → Float
+tanEighth x =
     let y = x ⊘ eight in
     let s = y ⊗ horner sinTable (y ⊗ y) in
     let c = horner cosTable (y ⊗ y) in
-    let t = s ⊘ c in
-    tanStep (tanStep (tanStep t))
+    s ⊘ c
+
+unfoldable pub tanByEighth : Float → Float
+tanByEighth t = tanStep (tanStep (tanStep t))
+
+unfoldable pub tanOf : Float → Float
+tanOf x = tanByEighth (tanEighth x)
 
 -- the angle of (x, y) where |x| ≥ |y|: atan(y/x), for x < 0 plus π if y ≥ 0, else minus π
 unfoldable pub wideAngle : Float → Float → Float

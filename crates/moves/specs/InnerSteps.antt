@@ -2,9 +2,10 @@
 -- `Drawing`. Definitions only.
 use Prim.Native.Nat.{ℕ, suc, _+_, _≤_}
 use mathlib.Core.List.{List, [], _∷_}
-use mathlib.Core.Bool.{not}
+use mathlib.Core.Bool.{Bool, true, false, not}
+use lib.IntN.{pos}
 use lib.ListN.{length}
-use lib.Ieee.{Float}
+use lib.Ieee.{Float, nan, fin, isNan}
 use Rattle.floats.specs.Choice.{when_give_else_}
 use Rattle.vectors.specs.Plane.{near}
 use Rattle.vectors.specs.declared.Vector2.{Vector2}
@@ -40,6 +41,15 @@ strokes k p (m ∷ ms) = strokeOf (record { last = p; number = record { 0 = k } 
 -- a move with another bulge
 abbrev pub withBulge : Float → Move → Move
 withBulge b m = record { end = m .end; bulge = b; reason = m .reason; origin = m .origin }
+
+-- a doubt: +0 where a test holds, and else a NaN
+abbrev pub doubtOf : Bool → Float
+doubtOf true = fin false 0 (pos 0)
+doubtOf false = nan
+
+-- there is none in x
+abbrev pub sure : Float → Bool
+sure x = not (isNan x)
 
 -- a drawing fits `room` places
 pub record Fits (room : ℕ) (d : Drawing) : Type 0 where

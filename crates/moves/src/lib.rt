@@ -7,7 +7,7 @@ ghost use Rattle.segments.specs.InnerSteps.{fullSeg};
 ghost use Rattle.moves.specs.Reason.{spanReason, connectorReason, isInvalid};
 ghost use Rattle.moves.specs.Made.{spanMove, connectorMove};
 ghost use Rattle.moves.specs.Drawing.{finiteVertex, emptyResult};
-ghost use Rattle.moves.specs.InnerSteps.{penAt, penAfter, stepOf, withBulge};
+ghost use Rattle.moves.specs.InnerSteps.{penAt, penAfter, stepOf, withBulge, doubtOf};
 use joins::JoinBoundary;
 use joins::JoinCause;
 use segments::CarriedSeg;
@@ -223,11 +223,11 @@ impl Pen {
     }
 }
 
-// A difference of a number and itself is zero, unless it is a NaN or an infinity: one test for all three.
-pub fn is_finite(v: PlineVertex) -> bool
-    ensures { λ r. ⌜ r ≡ finiteVertex v ⌝ }
+// +0 where the three numbers are finite, and else a NaN: a difference of a number and itself is that.
+pub fn doubt(v: PlineVertex) -> f64
+    ensures { λ r. ⌜ r ≡ doubtOf (finiteVertex v) ⌝ }
 {
-    (v.x - v.x) + (v.y - v.y) + (v.bulge - v.bulge) == 0.0
+    (v.x - v.x) + (v.y - v.y) + (v.bulge - v.bulge)
 }
 
 // How many vertices and indexes there are, and whether the answer is closed.

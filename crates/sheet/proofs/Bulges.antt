@@ -21,9 +21,9 @@ use Rattle.moves.specs.Drawing.{finiteVertex}
 use Rattle.moves.specs.InnerSteps.{strokeOf, penAfter, stepOf, withBulge}
 use Rattle.moves.proofs.Laws.{add-two}
 use Rattle.walk.specs.declared.Turned.{Turned}
-use Rattle.walk.specs.InnerSteps.{drawnBy}
+use Rattle.walk.specs.InnerSteps.{drawnBy, turnStrokes}
 use Rattle.sheet.specs.declared.Later.{Later}
-use Rattle.sheet.specs.InnerSteps.{Laid, putAt, stored, stores, bulgedAt, bulged, laterOf}
+use Rattle.sheet.specs.InnerSteps.{Reached, Laid, putAt, stored, stores, bulgedAt, reachedLater, bulged, laterOf}
 use Rattle.sheet.proofs.Stored.{stores-counted}
 
 -- ---- a stored vertex
@@ -55,6 +55,16 @@ unfolding _and_
 last-alone true b c = refl
 last-alone false true c = refl
 last-alone false false c = refl
+
+-- ---- what is left counted as written, or nothing left
+pub reached-none : (r : Later) (p : Reached) → r .due ≡ false → reachedLater r p ≡ p
+unfolding when_give_else_
+reached-none r p h = rw h
+
+pub reached-due : (r : Later) (p : Reached) → r .due ≡ true
+    → reachedLater r p ≡ record { strokes = p .strokes; marks = p .marks; finite = finite (bulgeOf (r .sweep)) and p .finite }
+unfolding when_give_else_
+reached-due r p h = rw h
 
 -- ---- a stroke, and those after it
 one-more : (s : Stroke) (l : Laid) → l .places .strokes < stored s l .places .strokes
@@ -90,12 +100,9 @@ stored-straight pen m sweep l z =
     rw (z, finite-zero, v, f)
 
 -- ---- the strokes of a turn: of its span and its connector
-abbrev pub turnStrokes : ℕ → Pen → Move → Move → Float → List Stroke
-turnStrokes n pen m c ε = drawnBy n (stepOf pen m ε) ++ drawnBy n (stepOf (stepOf pen m ε .pen) c ε)
-
 module _ (t : Turned) (ε : Float) (l : Laid) (z : t .span .bulge ≡ zero) where
   pub later : stores (turnStrokes (t .walk .leading) (t .walk .pen) (withBulge (bulgeBy (t .curved) (t .sweep)) (t .span)) (t .connector) ε) l
-      ≡ bulged (laterOf (l .places) t ε) (stores (turnStrokes (t .walk .leading) (t .walk .pen) (t .span) (t .connector) ε) l)
+      ≡ bulged (laterOf (l .places .strokes) t ε) (stores (turnStrokes (t .walk .leading) (t .walk .pen) (t .span) (t .connector) ε) l)
   unfolding drawnBy stepOf penAfter
   later = by (t .curved) (eqb (t .walk .leading) 0 and stepOf (t .walk .pen) (t .span) ε .kept)
     where
@@ -113,7 +120,7 @@ module _ (t : Turned) (ε : Float) (l : Laid) (z : t .span .bulge ≡ zero) wher
           unfold bulgeBy when_give_else_ _and_ stores in ap (stores rest) (stored-straight (t .walk .pen) m (t .sweep) l z)
           ∙ stores-after (l .places .strokes) (t .sweep) rest (stored (strokeOf (t .walk .pen) m) l) (one-more (strokeOf (t .walk .pen) m) l)
 
-pub later-placed : (t : Turned) (ε : Float) (l : Laid) → laterOf (l .places) t ε .due ≡ true
+pub later-placed : (t : Turned) (ε : Float) (l : Laid) → laterOf (l .places .strokes) t ε .due ≡ true
     → l .places .strokes < stores (turnStrokes (t .walk .leading) (t .walk .pen) (t .span) (t .connector) ε) l .places .strokes
 later-placed t ε l h =
     let first = stepOf (t .walk .pen) (t .span) ε in

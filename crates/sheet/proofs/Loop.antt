@@ -10,7 +10,6 @@ use lib.ListN.{length, replicate, length-append}
 use lib.Ieee.{Float}
 use Rattle.floats.specs.Binary64 as B
 use Rattle.floats.specs.Choice.{when_give_else_, _and_}
-use Rattle.floats.specs.Size.{finite}
 use Rattle.angles.specs.Angle.{bulgeOf}
 use Rattle.segments.specs.declared.PlineVertex.{PlineVertex}
 use Rattle.segments.specs.declared.Settings.{Settings}
@@ -23,14 +22,15 @@ use Rattle.moves.specs.declared.Stepped.{Stepped}
 use Rattle.moves.specs.InnerSteps.{penAfter, stepOf}
 use Rattle.walk.specs.declared.Walk.{Walk}
 use Rattle.walk.specs.declared.Turned.{Turned}
-use Rattle.walk.specs.InnerSteps.{Standing, stands, Stood, stood, Fit, standingAt, entering, afterTurn, Turn, turnTo, turnShown, drawnBy, advance}
+use Rattle.walk.specs.InnerSteps.{Standing, stands, Stood, stood, Fit, standingAt, entering, afterTurn, Turn, turnTo, turnShown, drawnBy, turnStrokes, penTurned, advance}
 use Rattle.sheet.specs.declared.Places.{Places}
 use Rattle.sheet.specs.declared.Later.{Later}
+use Rattle.sheet.specs.declared.Sheet.{Sheet}
 use Rattle.sheet.specs.Buffers.{Buffers, buffers}
-use Rattle.sheet.specs.InnerSteps.{noPlaces, Laid, laid, stores, bulgedAt, bulged, laterOf, Trail, trail, trailLater, advanced, advances, routed, Rooms, Alike, Turns, Ready}
+use Rattle.sheet.specs.InnerSteps.{noPlaces, Reached, reached, Laid, laid, stores, bulgedAt, reachedLater, bulged, laterOf, Trail, trail, trailLater, advanced, advances, routed, Rooms, Alike, Turns, Ready, Entered}
 use Rattle.sheet.proofs.Stored.{Counted, stores-counted}
 use Rattle.sheet.proofs.Storing.{step-number}
-use Rattle.sheet.proofs.Bulges.{turnStrokes, later, later-placed}
+use Rattle.sheet.proofs.Bulges.{later, later-placed}
 
 -- ---- what a turn adds
 
@@ -105,14 +105,14 @@ pub record Round (closed : Bool) (σ : Settings) (c : PlineVertex) (w : Walk) (p
   pub same-pen : t .walk .pen ≡ w .pen
   pub same-leading : t .walk .leading ≡ w .leading
   pub drew : laid p′ b′ ≡ stores (turnStrokes (t .walk .leading) (t .walk .pen) (t .span) (t .connector) (σ .eps)) (laid here between)
-  pub left : r′ ≡ laterOf here t (σ .eps)
-  pub moved : pen ≡ stepOf (stepOf (t .walk .pen) (t .span) (σ .eps) .pen) (t .connector) (σ .eps) .pen
+  pub left : r′ ≡ laterOf (here .strokes) t (σ .eps)
+  pub moved : pen ≡ penTurned (t .walk .pen) (t .span) (t .connector) (σ .eps)
   pub after : stood w′ ≡ afterTurn closed pen (t .walk .leading) (stands (t .walk))
 
 -- what a turn leaves, by its moves
 by : Bool → Float → ℕ → Pen → Turn → Laid → Trail
 by closed ε n pen u l = record {
-  stood = afterTurn closed (stepOf (stepOf pen (u .span) ε .pen) (u .connector) ε .pen) n (u .walker);
+  stood = afterTurn closed (penTurned pen (u .span) (u .connector) ε) n (u .walker);
   laid = stores (turnStrokes n pen (u .span) (u .connector) ε) l;
 }
 
@@ -142,7 +142,7 @@ module _ {closed : Bool} {σ : Settings} {c : PlineVertex} {w : Walk} {p : Place
       let n = ap (λ (y : Laid). y .places .strokes) (x .drew) in
       omega (arith, later-placed t (σ .eps) l (ap (λ (y : Later). y .due) (sym (x .left)) ∙ d))
 
-  round-counted : Counted (length (advance closed σ c (stood w) .strokes)) p p′
+  round-counted : Counted (length (advance closed σ c (stood w) .strokes)) (reached p) (reached p′)
   unfolding bulged advanced
   round-counted =
       let k = stores-counted (advance closed σ c (stood w) .strokes) (bulged r (laid p b)) in
@@ -166,11 +166,10 @@ module _ {closed : Bool} {σ : Settings} {c : PlineVertex} {w : Walk} {p : Place
 -- ---- the loop
 
 -- the code writes what is left
-pub wrote-later : (r : Later) (p : Places) (b : Buffers) {ns : List Float} {t : Bool} → ns ≡ bulgedAt (r .due) (r .place) (bulgeOf (r .sweep)) (b .vertices)
-    → t ≡ when r .due give finite (bulgeOf (r .sweep)) and p .finite else p .finite
-    → laid (record { strokes = p .strokes; marks = p .marks; finite = t }) (buffers ns (b .flags) (b .indexes)) ≡ bulged r (laid p b)
+pub wrote-later : (r : Later) (p q : Places) (b : Buffers) {ns : List Float} → ns ≡ bulgedAt (r .due) (r .place) (bulgeOf (r .sweep)) (b .vertices)
+    → reached q ≡ reachedLater r (reached p) → laid q (buffers ns (b .flags) (b .indexes)) ≡ bulged r (laid p b)
 unfolding bulged
-wrote-later r p b h k = rw (h, k)
+wrote-later r p q b h k = rw (h, k)
 
 alike-trans : {a b c : Buffers} → Alike a b → Alike b c → Alike a c
 alike-trans p q = record { vertices = q .vertices ∙ p .vertices; flags = q .flags ∙ p .flags; indexes = q .indexes ∙ p .indexes }
@@ -241,24 +240,39 @@ module _ {closed : Bool} {σ : Settings} {s : List Float} {v n : ℕ} where
     pub room-later : r .due ≡ true → 3 * r .place + 3 ≤ length (b .vertices)
     room-later d = let k = on .placed d in omega (arith, on .room .rooms .vertices)
 
-    pub room-turn : {p₁ : Places} {b₁ : Buffers} → i < n → p₁ .strokes ≡ p .strokes → p₁ .marks ≡ p .marks → Alike b b₁ → w .leading ≡ 0 → Rooms 2 p₁ b₁
-    room-turn lt hs hm a z =
+    pub room-turn : (p₁ : Places) {b₁ : Buffers} → i < n → reached p₁ ≡ reachedLater r (reached p) → Alike b b₁ → w .leading ≡ 0 → Rooms 2 (laid p₁ b₁)
+    room-turn p₁ lt h a z =
         let q = on .room .rooms in
+        let strokes = ap (λ (x : Reached). x .strokes) h in
+        let marks = ap (λ (x : Reached). x .marks) h in
         record { vertices = omega (arith, q .vertices, a .vertices); flags = omega (arith, q .flags, a .flags); indexes = omega (arith, q .indexes, a .indexes) }
 
+    -- the walk can be joined on
+    pub walking-fit : Fit w
+    walking-fit = on .room .fit
+
 -- there is room for n turns at the first vertex, where m of them lead in
-pub turns-first : (n m room : ℕ) (a : PlineVertex) {v : ℕ} {w : Walk} {p : Places} {s : List Float} {b : Buffers} → Ready v room s b → (stood w ≡ standingAt a m) × Fit w → p ≡ noPlaces
-    → n ≤ v + 2 → 2 * (n - m) ≤ room → Turns n w p b
+pub turns-first : (n m room : ℕ) (a : PlineVertex) {v : ℕ} {h : Sheet} {s : List Float} {b : Buffers} → Ready v room s b
+    → (stood (h .walk) ≡ standingAt a m) × Fit (h .walk) × (h .places ≡ noPlaces) → n ≤ v + 2 → 2 * (n - m) ≤ room → Turns n (h .walk) (h .places) b
 unfolding standingAt
-turns-first n m room a {w = w} {p = p} r h e l q =
-    let source : w .source .0 ≡ 0 = ap (λ (x : Stood). x .walker .source .0) (h .0) in
-    let number : w .pen .number .0 ≡ 0 = ap (λ (x : Stood). x .pen .number .0) (h .0) in
-    let leading : w .leading ≡ m = ap (λ (x : Stood). x .leading) (h .0) in
-    let strokes : p .strokes ≡ 0 = ap (λ (x : Places). x .strokes) e in
-    let marks : p .marks ≡ 0 = ap (λ (x : Places). x .marks) e in
+turns-first n m room a {h = h} r e l q =
+    let source : h .walk .source .0 ≡ 0 = ap (λ (x : Stood). x .walker .source .0) (e .0) in
+    let number : h .walk .pen .number .0 ≡ 0 = ap (λ (x : Stood). x .pen .number .0) (e .0) in
+    let leading : h .walk .leading ≡ m = ap (λ (x : Stood). x .leading) (e .0) in
+    let strokes : h .places .strokes ≡ 0 = ap (λ (x : Places). x .strokes) (e .2) in
+    let marks : h .places .marks ≡ 0 = ap (λ (x : Places). x .marks) (e .2) in
     record {
-      fit = h .1;
+      fit = e .1;
       sources = omega (arith, r .most);
       outputs = omega (arith, r .most);
       rooms = record { vertices = omega (arith, r .vertices); flags = omega (arith, r .flags); indexes = omega (arith, r .indexes) };
     }
+
+-- and for those once around, of a walk that is led in
+pub turns-around : {v : ℕ} {h : Sheet} {s : List Float} {b : Buffers} → Ready v (2 * v) s b → Entered h → Turns (v - 1) (h .walk) (h .places) b
+turns-around r e = record {
+  fit = e .fit;
+  sources = omega (arith, r .most, e .source);
+  outputs = omega (arith, r .most, e .number);
+  rooms = record { vertices = omega (arith, r .vertices, e .strokes); flags = omega (arith, r .flags, e .strokes); indexes = omega (arith, r .indexes, e .marks) };
+}

@@ -1,29 +1,28 @@
--- The vertices that a walk turns to: an open one to all but the first (`open-route`), a closed one to all of them and to the first two again (`closed-route`). Assumes nothing.
+-- The vertices that a walk turns to: an open one to all but the first (`open-route`), a closed one to the first two (`lead-route`) and then once around (`around-route`). Assumes nothing.
 use mathlib.Core.Path.{_≡_, refl, sym, ap, _∙_}
 use mathlib.Core.List.{List, [], _∷_, _++_, append-nil}
-use mathlib.Core.Bool.{Bool, true, false}
-use Prim.Native.Nat.{ℕ, zero, suc, _+_, _*_, _-_, _≤_, _<_}
+use Prim.Native.Nat.{ℕ, zero, suc, _+_, _*_, _-_, _≤_}
 use native.Mathlib.Nat.{suc-add}
 use native.Mathlib.Omega.{arith}
 use lib.ListN.{length, drop, getD, length-drop, drop-of-length-le}
 use lib.Ieee.{Float}
 use Rattle.segments.specs.declared.PlineVertex.{PlineVertex}
 use Rattle.source.specs.Source.{verticesOf}
-use Rattle.source.specs.InnerSteps.{vertexOf}
+use Rattle.source.specs.InnerSteps.{vertexOf, nextOf}
 use Rattle.source.proofs.Source.{count-vertices, getD-vertices, drop-vertices}
 use Rattle.source.proofs.Segments.{next-on, next-back}
 use Rattle.walk.specs.Walk.{lastVertex}
-use Rattle.sheet.specs.InnerSteps.{firstPlace, routed}
-
--- the place that a walk turns to first is there
-pub first-below : (closed : Bool) {k v : ℕ} → k ≡ firstPlace closed → 2 ≤ v → k < v
-first-below true e h = omega arith
-first-below false e h = omega arith
+use Rattle.sheet.specs.InnerSteps.{routed}
 
 last-at : (a : PlineVertex) (vs : List PlineVertex) (d : PlineVertex) → lastVertex a vs ≡ getD (a ∷ vs) (length vs) d
 unfolding lastVertex
 last-at a [] d = refl
 last-at a (b ∷ vs) d = last-at b vs d
+
+pub length-routed : (v n k : ℕ) (s : List Float) → length (routed v n k s) ≡ n
+unfolding routed
+length-routed v zero k s = refl
+length-routed v (suc n) k s = ap suc (length-routed v n _ s)
 
 module _ (s : List Float) (v : ℕ) (long : 3 * v ≡ length s) where
   -- up to the last vertex, and then from the first on
@@ -56,8 +55,22 @@ module _ (s : List Float) (v : ℕ) (long : 3 * v ≡ length s) where
         let n : v - 1 ≡ suc (v - 2) + 0 = omega arith in
         ap (λ k. routed v k 1 s) n ∙ routed-on (v - 2) 0 1 (omega arith) ∙ rw (drop-vertices s 1 (omega arith)) (unfold routed in rw append-nil)
 
-    pub closed-route : routed v (v + 2) 0 s ≡ vertexOf s 0 ∷ vertexOf s 1 ∷ drop 2 (verticesOf s) ++ vertexOf s 0 ∷ vertexOf s 1 ∷ []
-    closed-route =
-        let n : v + 2 ≡ suc (v - 1) + 2 = omega arith in
-        let e : routed v 2 0 s ≡ vertexOf s 0 ∷ vertexOf s 1 ∷ [] = unfold routed in rw (next-on v 0 (omega arith)) in
-        ap (λ k. routed v k 0 s) n ∙ routed-on (v - 1) 2 0 (omega arith) ∙ rw (first-two, e)
+    -- those that lead a closed one in, and those once around from there
+    pub lead-route : routed v 2 0 s ≡ vertexOf s 0 ∷ vertexOf s 1 ∷ []
+    unfolding routed
+    lead-route = rw (next-on v 0 (omega arith))
+
+    back-at-first : routed v 1 0 s ≡ vertexOf s 0 ∷ []
+    unfolding routed
+    back-at-first = refl
+
+    around-from : (n : ℕ) → n + 2 ≡ v → routed v (suc n) (nextOf v 1) s ≡ drop 2 (verticesOf s) ++ vertexOf s 0 ∷ []
+    around-from zero h =
+        let e : drop 2 (verticesOf s) ≡ [] = drop-of-length-le (verticesOf s) {i = 2} (omega (arith, count-vertices s v long)) in
+        rw (next-back v 1 (omega arith), e) back-at-first
+    around-from (suc n) h =
+        let z : suc (suc n) ≡ suc n + 1 = omega arith in
+        rw (next-on v 1 (omega arith), ← back-at-first) (ap (λ m. routed v m 2 s) z ∙ routed-on n 1 2 (omega arith))
+
+    pub around-route : routed v (v - 1) (nextOf v 1) s ≡ drop 2 (verticesOf s) ++ vertexOf s 0 ∷ []
+    around-route = let n : v - 1 ≡ suc (v - 2) = omega arith in rw n (around-from (v - 2) (omega arith))

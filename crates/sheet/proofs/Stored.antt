@@ -8,6 +8,8 @@ use native.Mathlib.Numerals.{add-one}
 use native.Mathlib.Omega.{arith}
 use lib.ListN.{length, set}
 use lib.Seq.{sets, sets-eq}
+use lib.Ieee.{isNan, ofBits}
+use Rattle.floats.specs.Binary64 as B
 use Rattle.floats.specs.Choice.{when_give_else_, _and_}
 use Rattle.vectors.specs.declared.Vector2.{Vector2}
 use Rattle.segments.specs.Vertex.{vertexAt}
@@ -15,12 +17,11 @@ use Rattle.moves.specs.declared.Move.{Move}
 use Rattle.moves.specs.declared.Stroke.{Stroke}
 use Rattle.moves.specs.Reason.{isInvalid, invalidMove}
 use Rattle.moves.specs.Drawing.{Drawing, corners, flagsOf, marks, mark, bit, finiteVertex, allFinite}
-use Rattle.moves.specs.InnerSteps.{strokes}
+use Rattle.moves.specs.InnerSteps.{strokes, sure}
 use Rattle.moves.proofs.Laws.{bit-small}
 use Rattle.moves.proofs.Shapes.{path, path-fits}
-use Rattle.sheet.specs.declared.Places.{Places}
 use Rattle.sheet.specs.Buffers.{Buffers, buffers, flat}
-use Rattle.sheet.specs.InnerSteps.{noPlaces, Laid, laid, stored, stores, over}
+use Rattle.sheet.specs.InnerSteps.{noPlaces, Reached, Laid, laid, stored, stores, over}
 use Rattle.sheet.proofs.Flat.{length-flat}
 
 pub stores-append : (ss ts : List Stroke) (l : Laid) → stores (ss ++ ts) l ≡ stores ts (stores ss l)
@@ -29,7 +30,7 @@ stores-append [] ts l = refl
 stores-append (s ∷ ss) ts l = stores-append ss ts (stored s l)
 
 -- n strokes take n places, and at most n of the indexes
-pub record Counted (n : ℕ) (p q : Places) : Type 0 where
+pub record Counted (n : ℕ) (p q : Reached) : Type 0 where
   pub strokes : q .strokes ≡ p .strokes + n
   pub marks : q .marks ≤ p .marks + n
 
@@ -95,7 +96,8 @@ written d old = buffers (over (flat (d .vertices)) (old .vertices)) (over (d .fl
 
 -- with the places after it
 abbrev pub drawnOver : Vector2 → List Move → Buffers → Laid
-drawnOver p ks old = laid (record { strokes = length ks; marks = length (marks 0 ks); finite = allFinite (corners p ks) }) (written (path p ks true) old)
+drawnOver p ks old =
+    record { places = record { strokes = length ks; marks = length (marks 0 ks); finite = allFinite (corners p ks) }; buffers = written (path p ks true) old }
 
 over-all : {A : Type 0} (xs old : List A) → length xs ≤ length old → sets old 0 xs ≡ over xs old
 over-all xs old h = sets-eq xs old 0 (rw zero-add h) ∙ rw zero-add
@@ -105,6 +107,10 @@ unfolding _and_
 and-true true = refl
 and-true false = refl
 
+none-sure : sure B.zero ≡ true
+unfolding isNan ofBits
+none-sure = refl
+
 pub stores-drawn : (p : Vector2) (ks : List Move) (old : Buffers) → 3 * length ks ≤ length (old .vertices) → length ks ≤ length (old .flags) → length ks ≤ length (old .indexes)
     → stores (strokes 0 p ks) (laid noPlaces old) ≡ drawnOver p ks old
 stores-drawn p ks old v f i =
@@ -113,4 +119,4 @@ stores-drawn p ks old v f i =
     let a = over-all (flat (corners p ks)) (old .vertices) (omega (arith, w .vertices)) in
     let b = over-all (flagsOf ks) (old .flags) (omega (arith, w .flags)) in
     let c = over-all (marks 0 ks) (old .indexes) (omega (arith, w .indexes)) in
-    stores-row 0 p ks (laid noPlaces old) ∙ simp (zero-add, and-true, a, b, c)
+    stores-row 0 p ks (laid noPlaces old) ∙ simp (zero-add, none-sure, and-true, a, b, c)

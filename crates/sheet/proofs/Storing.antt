@@ -19,9 +19,7 @@ use Rattle.moves.specs.Reason.{isInvalid}
 use Rattle.moves.specs.Drawing.{bit}
 use Rattle.moves.specs.InnerSteps.{penAfter, stepOf}
 use Rattle.walk.specs.InnerSteps.{drawnBy}
-use Rattle.sheet.specs.declared.Places.{Places}
-use Rattle.sheet.specs.Buffers.{Buffers}
-use Rattle.sheet.specs.InnerSteps.{Laid, laid, stored, stores, Rooms}
+use Rattle.sheet.specs.InnerSteps.{Laid, stored, stores, Rooms}
 use Rattle.sheet.proofs.Stored.{stores-append}
 
 -- a step counts one number at most
@@ -39,10 +37,10 @@ step-small pen m e n h k = rw h (omega (arith, step-number pen m e))
 -- ---- room
 
 -- where a step is drawn, the walk is led in, and has its room
-pub drawn-room : (n : ℕ) (k : Bool) {d : Bool} {p : Places} {b : Buffers} → d ≡ (eqb n 0 and k) → (n ≡ 0 → Rooms 2 p b) → d ≡ true → Rooms 2 p b
+pub drawn-room : (n : ℕ) (k : Bool) {d : Bool} {l : Laid} → d ≡ (eqb n 0 and k) → (n ≡ 0 → Rooms 2 l) → d ≡ true → Rooms 2 l
 drawn-room n k h room t = room (eqb-true n 0 (both-pass (eqb n 0) k .0 (sym h ∙ t) .0))
 
-pub room-less : {p : Places} {b : Buffers} → Rooms 2 p b → Rooms 1 p b
+pub room-less : {l : Laid} → Rooms 2 l → Rooms 1 l
 room-less w = record { vertices = omega arith; flags = omega arith; indexes = omega arith }
 
 marks-room : (t : Bool) (is : List ℕ) (j k n : ℕ) → j + (n + 1) ≤ length is → j + bit t + n ≤ length (when t give set is j k else is)
@@ -51,7 +49,7 @@ marks-room true is j k n h = simp length-set (omega arith)
 marks-room false is j k n h = omega arith
 
 -- a stroke leaves room for one fewer
-pub stored-room : (n : ℕ) (s : Stroke) (l : Laid) → Rooms (n + 1) (l .places) (l .buffers) → Rooms n (stored s l .places) (stored s l .buffers)
+pub stored-room : (n : ℕ) (s : Stroke) (l : Laid) → Rooms (n + 1) l → Rooms n (stored s l)
 unfolding stored
 stored-room n s l w = record {
   vertices = simp length-set (omega arith);
@@ -63,10 +61,10 @@ stored-room n s l w = record {
 abbrev pub drawn : Bool → Stroke → Laid → Laid
 drawn t s l = when t give stored s l else l
 
-pub drawn-leaves : (t : Bool) (s : Stroke) {p r : Places} {b b′ : Buffers} → laid r b′ ≡ drawn t s (laid p b) → Rooms 2 p b → Rooms 1 r b′
+pub drawn-leaves : (t : Bool) (s : Stroke) {l l′ : Laid} → l′ ≡ drawn t s l → Rooms 2 l → Rooms 1 l′
 unfolding when_give_else_
-drawn-leaves true s {p} {r} {b} h w = subst (λ (l : Laid). Rooms 1 (l .places) (l .buffers)) (sym h) (stored-room 1 s (laid p b) w)
-drawn-leaves false s h w = subst (λ (l : Laid). Rooms 1 (l .places) (l .buffers)) (sym h) (room-less w)
+drawn-leaves true s {l} h w = subst (Rooms 1) (sym h) (stored-room 1 s l w)
+drawn-leaves false s h w = subst (Rooms 1) (sym h) (room-less w)
 
 -- ---- the strokes of two steps
 

@@ -6,7 +6,7 @@ use Prim.Native.Nat.{ℕ, _+_, _*_, _-_, _≤_}
 use native.Mathlib.Omega.{arith}
 use borrow.Author.Tests.{ne-eqb}
 use lib.Dec.{eqb, eqb·suc-zero}
-use lib.ListN.{length, drop}
+use lib.ListN.{length, drop, length-append}
 use lib.Ieee.{Float}
 use Rattle.floats.specs.Binary64.{zero}
 use Rattle.floats.specs.Choice.{when_give_else_, _and_}
@@ -17,31 +17,34 @@ use Rattle.segments.specs.declared.Settings.{Settings}
 use Rattle.segments.specs.Vertex.{vertexAt}
 use Rattle.segments.specs.Segment.{isCollapsed}
 use Rattle.source.specs.Source.{verticesOf}
-use Rattle.source.specs.InnerSteps.{vertexOf}
+use Rattle.source.specs.InnerSteps.{vertexOf, nextOf}
 use Rattle.moves.specs.declared.Move.{Move}
+use Rattle.moves.specs.declared.Stroke.{Stroke}
 use Rattle.moves.specs.declared.Stepped.{Stepped}
+use Rattle.moves.specs.Made.{connectorMove}
 use Rattle.moves.specs.Drawing.{Drawing, nothing, moveEnd, kept, lastPoint, corners, flagsOf, marks, drawnOpen, drawnClosed, finiteVertex, allFinite, emptyResult, resultOf}
 use Rattle.moves.specs.InnerSteps.{stepOf, strokes, Fits}
 use Rattle.moves.proofs.Kept.{length-kept}
-use Rattle.moves.proofs.Lists.{length-corners, length-flagsOf, length-marks}
+use Rattle.moves.proofs.Lists.{length-corners, length-flagsOf}
 use Rattle.moves.proofs.Shapes.{path, path-fits, ray, length-ray, ray-fits, nothing-fits}
 use Rattle.moves.proofs.Drawn.{closed-never-one}
-use Rattle.walk.specs.Walk.{walkStart, walkMoves, walkDrawing, loneCollapsed, drawingOf}
-use Rattle.walk.specs.InnerSteps.{standingAt, lastSpan, drawnBy, advance, goes, drawnOn}
-use Rattle.walk.proofs.Around.{open-led, open-drawn, open-current, closed-drawn}
+use Rattle.joins.specs.declared.JoinBoundary.{JoinBoundary}
+use Rattle.walk.specs.Walk.{closingJoin, walkStart, walkMoves, walkDrawing, loneCollapsed, drawingOf}
+use Rattle.walk.specs.InnerSteps.{stands, Stood, stood, Fit, standingAt, spanTo, lastSpan, drawnBy, turnStrokes, advance, goes, drawnOn}
+use Rattle.walk.proofs.Around.{open-led, open-drawn, open-current, ledIn, closed-led, closed-undrawn, closed-drawn}
 use Rattle.walk.proofs.Ends.{closed-ends}
 use Rattle.walk.proofs.Lengths.{open-length, closed-most}
 use Rattle.sheet.specs.declared.Places.{Places}
 use Rattle.sheet.specs.declared.Sheet.{Sheet}
 use Rattle.sheet.specs.declared.Built.the-variants.{Done}
 use Rattle.sheet.specs.Buffers.{Buffers, flat, shown}
-use Rattle.sheet.specs.InnerSteps.{noPlaces, Laid, laid, putAt, stored, stores, Trail, trail, advanced, advances, routed, Alike, Ready, over, wiped, Within, Lasts, finished, finishes, finishesOpen, lasts, builtOf}
+use Rattle.sheet.specs.InnerSteps.{noPlaces, Reached, Laid, laid, putAt, stored, stores, Trail, trail, advanced, advances, routed, Alike, Ready, over, wiped, Within, Lasts, finished, finishes, finishesOpen, lasts, closes, Entered, builtOf}
 use Rattle.sheet.proofs.Over.{over-sets, cleared-after, cleared-whole}
 use Rattle.sheet.proofs.Flat.{flat-snoc, length-flat}
 use Rattle.sheet.proofs.Stored.{stores-append, stores-counted, written, drawnOver, stores-drawn}
-use Rattle.sheet.proofs.Storing.{stores-last}
+use Rattle.sheet.proofs.Storing.{drawn, stores-last, two-stored}
 use Rattle.sheet.proofs.Bulges.{swap}
-use Rattle.sheet.proofs.Routes.{first-two, others, last-is, open-route, closed-route}
+use Rattle.sheet.proofs.Routes.{length-routed, first-two, others, last-is, open-route, lead-route, around-route}
 use Rattle.sheet.proofs.Loop.{drawn-few, advances-gone}
 
 -- ---- the lists of a drawing, with zeros after them or in their place
@@ -65,7 +68,9 @@ module _ (room : ℕ) (d : Drawing) (old : Buffers) (w : Fits room d) where
       let i = cleared-whole 0 room (d .indexes) (old .indexes) (w .indexes) in
       rw (v, f, i)
 
-  finish-built : finishes room (resultOf d) (laid (record { strokes = length (d .flags); marks = length (d .indexes); finite = allFinite (d .vertices) }) (written d old)) ≡ builtOf room d old
+  finish-built :
+      let places : Reached = record { strokes = length (d .flags); marks = length (d .indexes); finite = allFinite (d .vertices) } in
+      finishes room (resultOf d) (record { places = places; buffers = written d old }) ≡ builtOf room d old
   unfolding finishes builtOf
   finish-built = rw (written-after, written-whole)
 
@@ -147,35 +152,80 @@ module _ (closed : Bool) (σ : Settings) (s : List Float) where
 abbrev walked : Bool → Settings → List PlineVertex → PlineVertex → ℕ → Buffers → Trail
 walked closed σ vs a n old = advances closed σ vs (record { stood = standingAt a n; laid = laid noPlaces old })
 
-module _ (σ : Settings) (s : List Float) (v : ℕ) (old : Buffers) (sheet : Sheet) {b : Buffers} where
-  -- ---- closed
-  module _ (ready : Ready v (2 * v) s old) (h : trail sheet b ≡ walked true σ (routed v (v + 2) 0 s) (vertexOf s (v - 1)) 2 old) where
-    closed-few : length (moves true σ s) ≤ 2 * v
-    closed-few = omega (arith, few true σ s, closed-most σ (vertexOf s 0) (vertexOf s 1) (rest s), others s v (ready .long) (ready .two))
-
-    closed-laid : laid (sheet .places) b ≡ drawnOver (start true σ s) (moves true σ s) old
-    closed-laid =
-        let n = closed-few in
-        ap (λ (r : Trail). r .laid) h ∙ rw (closed-route s v (ready .long) (ready .two), ← last-is s v (ready .long) (ready .two), advances-drawn, closed-drawn)
-        (stores-drawn (start true σ s) (moves true σ s) old (omega (arith, ready .vertices)) (omega (arith, ready .flags)) (omega (arith, ready .indexes)))
-
-    pub closed-counts : (sheet .places .strokes ≤ 2 * v) × (sheet .places .marks ≤ 2 * v)
-    closed-counts =
-        let k = ap (λ (l : Laid). l .places .strokes) closed-laid in
-        let j = ap (λ (l : Laid). l .places .marks) closed-laid in
-        let n = closed-few in
-        (omega arith, omega (arith, length-marks 0 (moves true σ s)))
-
-    pub closed-within : Alike old b → Within (2 * v) (sheet .places .strokes) (sheet .places .strokes) (sheet .places .marks) b
-    closed-within alike = record {
+-- ---- after turns from the first places on there is room for the last moves
+pub lasts-after : (closed : Bool) (σ : Settings) (s : List Float) (v n k room : ℕ) (h h′ : Sheet) {b b′ : Buffers} → Ready v room s b → Alike b b′
+    → (h .places .strokes ≡ 0) × (h .places .marks ≡ 0) × (h .walk .pen .number .0 ≡ 0) → 2 * (n - h .walk .leading) + 2 ≤ room → n ≤ 4096 → room ≤ 2 * v
+    → trail h′ b′ ≡ advances closed σ (routed v n k s) (trail h b) → Lasts room h′ b′
+lasts-after closed σ s v n k room h h′ {b} ready alike none few most small e =
+    let l = length-routed v n k s in
+    let g = rw (← e) at (advances-gone closed σ (routed v n k s) (trail h b)) in
+    record {
+      outputs = omega (arith, g .number, none .2);
       small = omega (arith, ready .most);
-      from-vertex = closed-counts .0;
-      from-flag = closed-counts .0;
-      from-index = closed-counts .1;
+      strokes = omega (arith, g .strokes, none .0);
+      marks = omega (arith, g .marks, none .1);
       vertices = omega (arith, ready .vertices, alike .vertices);
       flags = omega (arith, ready .flags, alike .flags);
       indexes = omega (arith, ready .indexes, alike .indexes);
     }
+
+-- of an open walk
+pub first-lasts : (σ : Settings) (s : List Float) (v k : ℕ) (a : PlineVertex) (h h′ : Sheet) {b b′ : Buffers} → Ready v (2 * (v - 1)) s b → Alike b b′
+    → (stood (h .walk) ≡ standingAt a 1) × Fit (h .walk) × (h .places ≡ noPlaces) → trail h′ b′ ≡ advances false σ (routed v (v - 1) k s) (trail h b) → Lasts (2 * (v - 1)) h′ b′
+unfolding standingAt
+first-lasts σ s v k a h h′ ready alike first e =
+    let leading : h .walk .leading ≡ 1 = ap (λ (x : Stood). x .leading) (first .0) in
+    lasts-after false σ s v (v - 1) k (2 * (v - 1)) h h′ ready alike
+    (ap (λ (x : Places). x .strokes) (first .2), ap (λ (x : Places). x .marks) (first .2), ap (λ (x : Stood). x .pen .number .0) (first .0))
+    (omega (arith, ready .two)) (omega (arith, ready .most)) (omega arith) e
+
+pub ready-alike : {v room : ℕ} {s : List Float} {b b′ : Buffers} → Ready v room s b → Alike b b′ → Ready v room s b′
+ready-alike r a = record {
+  long = r .long;
+  two = r .two;
+  most = r .most;
+  vertices = omega (arith, r .vertices, a .vertices);
+  flags = omega (arith, r .flags, a .flags);
+  indexes = omega (arith, r .indexes, a .indexes);
+}
+
+module _ (σ : Settings) (s : List Float) (v : ℕ) (old : Buffers) (sheet : Sheet) {b : Buffers} where
+  -- ---- closed
+  module _ (ready : Ready v (2 * v) s old) (h : trail sheet b ≡ walked true σ (routed v 2 0 s) (vertexOf s (v - 1)) 2 old) where
+    abbrev first : Stood
+    first = ledIn σ (vertexOf s 0) (vertexOf s 1) (rest s)
+
+    closed-first : trail sheet b ≡ record { stood = first; laid = laid noPlaces old }
+    unfolding stores
+    closed-first = h ∙ rw (lead-route s v (ready .long) (ready .two), ← last-is s v (ready .long) (ready .two), advances-drawn, closed-led, closed-undrawn)
+
+    pub closed-entered : Fit (sheet .walk) → Entered sheet
+    unfolding ledIn
+    closed-entered f = record {
+      fit = f;
+      leading = ap (λ (r : Trail). r .stood .leading) closed-first;
+      source = ap (λ (r : Trail). r .stood .walker .source .0) closed-first;
+      number = ap (λ (r : Trail). r .stood .pen .number .0) closed-first;
+      strokes = ap (λ (r : Trail). r .laid .places .strokes) closed-first;
+      marks = ap (λ (r : Trail). r .laid .places .marks) closed-first;
+    }
+
+    closed-few : length (moves true σ s) ≤ 2 * v
+    closed-few = omega (arith, few true σ s, closed-most σ (vertexOf s 0) (vertexOf s 1) (rest s), others s v (ready .long) (ready .two))
+
+    -- once around, with the closing moves
+    abbrev around : List PlineVertex
+    around = rest s ++ vertexOf s 0 ∷ []
+
+    closed-laid :
+        let k = closingJoin σ (vertexOf s 0) (vertexOf s 1) (rest s) in
+        let w = goes true σ around first in
+        stores (turnStrokes 0 (w .pen) (spanTo (w .walker) (k .«current_end») (k .«current_param»)) (connectorMove (w .walker .source .0) k) (σ .eps))
+        (stores (drawnOn true σ around first) (laid noPlaces old)) ≡ drawnOver (start true σ s) (moves true σ s) old
+    closed-laid =
+        let n = closed-few in
+        sym (stores-append (drawnOn true σ around first) _ (laid noPlaces old)) ∙ rw (closed-drawn σ (vertexOf s 0) (vertexOf s 1) (rest s))
+        (stores-drawn (start true σ s) (moves true σ s) old (omega (arith, ready .vertices)) (omega (arith, ready .flags)) (omega (arith, ready .indexes)))
 
     never-one : length (moves true σ s) ≡ 1 → ⊥
     never-one =
@@ -187,32 +237,32 @@ module _ (σ : Settings) (s : List Float) (v : ℕ) (old : Buffers) (sheet : She
     unfolding drawingOf loneCollapsed walkDrawing when_give_else_
     closed-drawing = ap (drawingOf true σ) (sym (first-two s v (ready .long) (ready .two)))
 
-    pub closed-built : finishes (2 * v) (record { vertices = sheet .places .strokes; indexes = sheet .places .marks; closed = not (eqb (sheet .places .strokes) 0) }) (laid (sheet .places) b)
-        ≡ builtOf (2 * v) (drawingOf true σ (verticesOf s)) old
-    closed-built =
+    closed-entry : sheet .walk .entry ≡ closingJoin σ (vertexOf s 0) (vertexOf s 1) (rest s)
+    unfolding ledIn
+    closed-entry = ap (λ (r : Trail). r .stood .walker .entry) closed-first
+
+    closed-closes : closes (2 * v) (closingJoin σ (vertexOf s 0) (vertexOf s 1) (rest s)) (σ .eps)
+        (record { stood = goes true σ around first; laid = stores (drawnOn true σ around first) (laid noPlaces old) }) ≡ builtOf (2 * v) (drawingOf true σ (verticesOf s)) old
+    unfolding closes
+    closed-closes =
         ap (λ (l : Laid). finishes (2 * v) (record { vertices = l .places .strokes; indexes = l .places .marks; closed = not (eqb (l .places .strokes) 0) }) l) closed-laid
         ∙ closed-finish (2 * v) (start true σ s) (moves true σ s) old never-one closed-few
         ∙ rw closed-drawing
+
+    pub closed-built : closes (2 * v) (sheet .walk .entry) (σ .eps) (advances true σ (routed v (v - 1) (nextOf v 1) s) (trail sheet b)) ≡ builtOf (2 * v) (drawingOf true σ (verticesOf s)) old
+    closed-built =
+        let k = closingJoin σ (vertexOf s 0) (vertexOf s 1) (rest s) in
+        let led : Trail = record { stood = first; laid = laid noPlaces old } in
+        ap (λ (j : JoinBoundary). closes (2 * v) j (σ .eps) (advances true σ (routed v (v - 1) (nextOf v 1) s) (trail sheet b))) closed-entry
+        ∙ ap (λ (r : Trail). closes (2 * v) k (σ .eps) (advances true σ (routed v (v - 1) (nextOf v 1) s) r)) closed-first
+        ∙ ap (λ (vs : List PlineVertex). closes (2 * v) k (σ .eps) (advances true σ vs led)) (around-route s v (ready .long) (ready .two))
+        ∙ ap (closes (2 * v) k (σ .eps)) (advances-drawn true σ around led)
+        ∙ closed-closes
 
   -- ---- open
   module _ (ready : Ready v (2 * (v - 1)) s old) (h : trail sheet b ≡ walked false σ (routed v (v - 1) 1 s) (vertexOf s 0) 1 old) where
     open-gone : trail sheet b ≡ walked false σ (vertexOf s 1 ∷ rest s) (vertexOf s 0) 1 old
     open-gone = h ∙ rw (open-route s v (ready .long) (ready .two))
-
-    pub open-lasts : Alike old b → Lasts (2 * (v - 1)) sheet b
-    unfolding standingAt
-    open-lasts alike =
-        let n = others s v (ready .long) (ready .two) in
-        let g = rw (← open-gone) at (advances-gone false σ (vertexOf s 1 ∷ rest s) (record { stood = standingAt (vertexOf s 0) 1; laid = laid noPlaces old })) in
-        record {
-          outputs = omega (arith, g .number, ready .most);
-          small = omega (arith, ready .most);
-          strokes = omega (arith, g .strokes);
-          marks = omega (arith, g .marks);
-          vertices = omega (arith, ready .vertices, alike .vertices);
-          flags = omega (arith, ready .flags, alike .flags);
-          indexes = omega (arith, ready .indexes, alike .indexes);
-        }
 
     open-few : length (moves false σ s) + 1 ≤ 2 * (v - 1)
     open-few = omega (arith, few false σ s, open-length σ (vertexOf s 0) (vertexOf s 1) (rest s), others s v (ready .long) (ready .two))
@@ -245,18 +295,18 @@ module _ (σ : Settings) (s : List Float) (v : ℕ) (old : Buffers) (sheet : She
         ∙ open-ends
         ∙ ap (λ (vs : List PlineVertex). builtOf (2 * (v - 1)) (drawingOf false σ vs) old) (sym (first-two s v (ready .long) (ready .two)))
 
--- ---- the last span of an open walk, as the code stores it
+-- ---- the last moves as the code stores them: the last span of an open walk
 pub last-stored : (st : Stepped) (l : Laid) → when st .kept give stored (st .stroke) l else l ≡ stores (drawnBy 0 st) l
 unfolding drawnBy _and_
 last-stored st l = sym (stores-last (st .kept) (st .stroke) l)
 
-pub last-within : (room : ℕ) (s : Sheet) (st : Stepped) {b b′ : Buffers} {p : Places} → Lasts room s b → Alike b b′
-    → laid p b′ ≡ when st .kept give stored (st .stroke) (laid (s .places) b) else laid (s .places) b → Within room (p .strokes + 1) (p .strokes) (p .marks) b′
-last-within room s st {b} w alike h =
-    let k = stores-counted (drawnBy 0 st) (laid (s .places) b) in
-    let n = drawn-few 0 st in
-    let e = ap (λ (l : Laid). l .places .strokes) (h ∙ last-stored st (laid (s .places) b)) in
-    let f = ap (λ (l : Laid). l .places .marks) (h ∙ last-stored st (laid (s .places) b)) in
+-- there is room for them, and for k vertices in all
+pub last-within : (k room : ℕ) (h : Sheet) (p : Places) (ss : List Stroke) {b b′ : Buffers} → Lasts room h b → Alike b b′ → laid p b′ ≡ stores ss (laid (h .places) b)
+    → length ss ≤ 2 → k + length ss ≤ p .strokes + 2 → Within room k (p .strokes) (p .marks) b′
+last-within k room h p ss {b} w alike e n m =
+    let c = stores-counted ss (laid (h .places) b) in
+    let x = ap (λ (l : Laid). l .places .strokes) e in
+    let y = ap (λ (l : Laid). l .places .marks) e in
     record {
       small = w .small;
       from-vertex = omega (arith, w .strokes);
@@ -266,3 +316,33 @@ last-within room s st {b} w alike h =
       flags = omega (arith, w .flags, alike .flags);
       indexes = omega (arith, w .indexes, alike .indexes);
     }
+
+-- the closing moves as the code stores them: `first` and `second` leave p and then q
+module _ (room : ℕ) (ε : Float) (h : Sheet) (k : JoinBoundary) (first second : Stepped) (p q : Places) {span connector : Move} {b b₁ b₂ : Buffers} (w : Lasts room h b) (alike : Alike b b₂)
+    (e : span ≡ spanTo (stands (h .walk)) (k .«current_end») (k .«current_param»)) (one : first ≡ stepOf (h .walk .pen) span ε)
+    (half : laid p b₁ ≡ drawn (first .kept) (first .stroke) (laid (h .places) b))
+    (f : connector ≡ connectorMove (h .walk .source .0) k) (two : second ≡ stepOf (first .pen) connector ε)
+    (all : laid q b₂ ≡ drawn (second .kept) (second .stroke) (laid p b₁)) where
+  abbrev span-is : Move
+  span-is = spanTo (stands (h .walk)) (k .«current_end») (k .«current_param»)
+
+  abbrev connector-is : Move
+  connector-is = connectorMove (h .walk .source .0) k
+
+  closing-stored : laid q b₂ ≡ stores (turnStrokes 0 (h .walk .pen) span-is connector-is ε) (laid (h .places) b)
+  unfolding _and_
+  closing-stored =
+      let x = one ∙ ap (λ (m : Move). stepOf (h .walk .pen) m ε) e in
+      let y = two ∙ ap (λ (st : Stepped). stepOf (st .pen) connector ε) x ∙ ap (λ (m : Move). stepOf (stepOf (h .walk .pen) span-is ε .pen) m ε) f in
+      two-stored 0 (laid (h .places) b) x refl half y refl all
+
+  pub closing-within : Within room (q .strokes) (q .strokes) (q .marks) b₂
+  closing-within =
+      let x = stepOf (h .walk .pen) span-is ε in
+      let y = stepOf (x .pen) connector-is ε in
+      let few : length (drawnBy 0 x ++ drawnBy 0 y) ≤ 2 = omega (arith, drawn-few 0 x, drawn-few 0 y, length-append (drawnBy 0 x) (drawnBy 0 y)) in
+      last-within (q .strokes) room h q (drawnBy 0 x ++ drawnBy 0 y) w alike closing-stored few (omega arith)
+
+  pub closing-done : finishes room (record { vertices = q .strokes; indexes = q .marks; closed = not (eqb (q .strokes) 0) }) (laid q b₂) ≡ closes room k ε (trail h b)
+  unfolding closes
+  closing-done = ap (λ (l : Laid). finishes room (record { vertices = l .places .strokes; indexes = l .places .marks; closed = not (eqb (l .places .strokes) 0) }) l) closing-stored

@@ -3,29 +3,32 @@
 use mathlib.Core.Path.{_≡_}
 use Prim.Native.Nat.{ℕ, zero, suc, _+_, _*_, _-_, _≤_, _<_}
 use mathlib.Core.List.{List, [], _∷_, _++_}
-use mathlib.Core.Bool.{Bool, true, false}
+use mathlib.Core.Bool.{Bool, true, false, not}
 use lib.Dec.{eqb}
 use lib.ListN.{length, set, take, drop, replicate}
 use lib.Seq.{sets}
 use lib.Ieee.{Float}
 use Rattle.floats.specs.Binary64 as B
+use Rattle.floats.specs.Binary64.{_⊘_}
 use Rattle.floats.specs.Choice.{when_give_else_, _and_}
 use Rattle.floats.specs.Size.{finite}
 use Rattle.segments.specs.declared.Settings.{Settings}
 use Rattle.segments.specs.declared.PlineVertex.{PlineVertex}
 use Rattle.segments.specs.Vertex.{vertexAt}
 use Rattle.segments.specs.Segment.{isCollapsed}
-use Rattle.angles.specs.Angle.{bulgeOf}
+use Rattle.angles.specs.Angle.{tanEighth, bulgeOf}
 use Rattle.source.specs.InnerSteps.{vertexOf, nextOf}
+use Rattle.joins.specs.declared.JoinBoundary.{JoinBoundary}
 use Rattle.moves.specs.declared.Pen.{Pen}
 use Rattle.moves.specs.declared.Stroke.{Stroke}
 use Rattle.moves.specs.declared.RawOffsetResult.{RawOffsetResult}
 use Rattle.moves.specs.Reason.{isInvalid}
 use Rattle.moves.specs.Drawing.{Drawing, bit, nothing, finiteVertex, allFinite, emptyResult, resultOf}
-use Rattle.moves.specs.InnerSteps.{stepOf}
+use Rattle.moves.specs.Made.{connectorMove}
+use Rattle.moves.specs.InnerSteps.{stepOf, sure}
 use Rattle.walk.specs.declared.Walk.{Walk}
 use Rattle.walk.specs.declared.Turned.{Turned}
-use Rattle.walk.specs.InnerSteps.{Stood, stood, Fit, lastSpan, drawnBy, Advance, advance}
+use Rattle.walk.specs.InnerSteps.{Stood, stood, Fit, spanTo, lastSpan, drawnBy, turnStrokes, advance}
 use Rattle.sheet.specs.declared.Places.{Places}
 use Rattle.sheet.specs.declared.Later.{Later}
 use Rattle.sheet.specs.declared.Sheet.{Sheet}
@@ -37,15 +40,24 @@ use Rattle.sheet.specs.Buffers.{Buffers, buffers, shown}
 
 -- the first places, with nothing stored
 abbrev pub noPlaces : Places
-noPlaces = record { strokes = 0; marks = 0; finite = true }
+noPlaces = record { strokes = 0; marks = 0; doubt = B.zero }
 
--- the places and the buffers, which a stroke changes
+-- how far it is stored: so many strokes and indexes, and whether all their numbers are finite
+pub record Reached : Type 0 where
+  pub strokes : ℕ
+  pub marks : ℕ
+  pub finite : Bool
+
+abbrev pub reached : Places → Reached
+reached p = record { strokes = p .strokes; marks = p .marks; finite = sure (p .doubt) }
+
+-- and the buffers, which a stroke changes
 pub record Laid : Type 0 where
-  pub places : Places
+  pub places : Reached
   pub buffers : Buffers
 
 abbrev pub laid : Places → Buffers → Laid
-laid p b = record { places = p; buffers = b }
+laid p b = record { places = reached p; buffers = b }
 
 -- a vertex at place k
 abbrev pub putAt : List Float → ℕ → PlineVertex → List Float
@@ -77,20 +89,23 @@ stores (s ∷ ss) l = stores ss (stored s l)
 unfoldable pub bulgedAt : Bool → ℕ → Float → List Float → List Float
 bulgedAt t k b ns = when t give set ns (3 * k + 2) b else ns
 
+-- the half of it is worked out
+abbrev pub Begun : Later → Float → Type 0
+Begun r half = r .due ≡ true → half ≡ tanEighth (r .sweep ⊘ B.four)
+
 -- what is left to be written counted as written
+abbrev pub reachedLater : Later → Reached → Reached
+reachedLater r p = record { strokes = p .strokes; marks = p .marks; finite = when r .due give finite (bulgeOf (r .sweep)) and p .finite else p .finite }
+
 unfoldable pub bulged : Later → Laid → Laid
 bulged r l = record {
-  places = record {
-    strokes = l .places .strokes;
-    marks = l .places .marks;
-    finite = when r .due give finite (bulgeOf (r .sweep)) and l .places .finite else l .places .finite;
-  };
+  places = reachedLater r (l .places);
   buffers = buffers (bulgedAt (r .due) (r .place) (bulgeOf (r .sweep)) (l .buffers .vertices)) (l .buffers .flags) (l .buffers .indexes);
 }
 
--- what a turn leaves to be written: the bulge of its span, if that is an arc and is drawn
-abbrev pub laterOf : Places → Turned → Float → Later
-laterOf p t ε = record { due = t .curved and (eqb (t .walk .leading) 0 and stepOf (t .walk .pen) (t .span) ε .kept); place = p .strokes; sweep = t .sweep }
+-- what a turn leaves to be written: the bulge of its span, if that is an arc and is drawn, at place k
+abbrev pub laterOf : ℕ → Turned → Float → Later
+laterOf k t ε = record { due = t .curved and (eqb (t .walk .leading) 0 and stepOf (t .walk .pen) (t .span) ε .kept); place = k; sweep = t .sweep }
 
 -- ---- turns
 
@@ -100,7 +115,7 @@ pub record Trail : Type 0 where
   pub laid : Laid
 
 abbrev pub trail : Sheet → Buffers → Trail
-trail s b = record { stood = stood (s .walk); laid = laid (s .places) b }
+trail h b = record { stood = stood (h .walk); laid = laid (h .places) b }
 
 abbrev pub trailLater : Walk → Places → Later → Buffers → Trail
 trailLater w p r b = record { stood = stood w; laid = bulged r (laid p b) }
@@ -121,25 +136,13 @@ unfoldable pub routed : ℕ → ℕ → ℕ → List Float → List PlineVertex
 routed v zero k s = []
 routed v (suc n) k s = vertexOf s k ∷ routed v n (nextOf v k) s
 
--- those that a walk turns to, closed or open
-abbrev pub firstPlace : Bool → ℕ
-firstPlace true = 0
-firstPlace false = 1
-
-abbrev pub turnCount : Bool → ℕ → ℕ
-turnCount true v = v + 2
-turnCount false v = v - 1
-
-abbrev pub routeOf : Bool → ℕ → List Float → List PlineVertex
-routeOf closed v s = routed v (turnCount closed v) (firstPlace closed) s
-
 -- ---- room
 
 -- there is room for t strokes more
-pub record Rooms (t : ℕ) (p : Places) (b : Buffers) : Type 0 where
-  pub vertices : 3 * (p .strokes + t) ≤ length (b .vertices)
-  pub flags : p .strokes + t ≤ length (b .flags)
-  pub indexes : p .marks + t ≤ length (b .indexes)
+pub record Rooms (t : ℕ) (l : Laid) : Type 0 where
+  pub vertices : 3 * (l .places .strokes + t) ≤ length (l .buffers .vertices)
+  pub flags : l .places .strokes + t ≤ length (l .buffers .flags)
+  pub indexes : l .places .marks + t ≤ length (l .buffers .indexes)
 
 -- buffers of the same lengths
 pub record Alike (b b′ : Buffers) : Type 0 where
@@ -152,7 +155,13 @@ pub record Turns (t : ℕ) (w : Walk) (p : Places) (b : Buffers) : Type 0 where
   pub fit : Fit w
   pub sources : w .source .0 + t < 0x1_0000_0000
   pub outputs : w .pen .number .0 + 2 * t < 0x1_0000_0000
-  pub rooms : Rooms (2 * (t - w .leading)) p b
+  pub rooms : Rooms (2 * (t - w .leading)) (laid p b)
+
+-- and over a source of v vertices, from place k on
+pub record Starts (v k t : ℕ) (h : Sheet) (s : List Float) (b : Buffers) : Type 0 where
+  pub long : 3 * v ≡ length s
+  pub below : k < v
+  pub turns : Turns t (h .walk) (h .places) b
 
 -- a source of v vertices, and `room` places in each buffer
 pub record Ready (v room : ℕ) (s : List Float) (b : Buffers) : Type 0 where
@@ -211,8 +220,10 @@ finishesOpen room pen l =
     let v = vertexAt (pen .last) B.zero in
     when eqb (l .places .strokes) 0 give finished (Done emptyResult) (wiped room 0 0 0 (l .buffers)) else
     finishes room (record { vertices = l .places .strokes + 1; indexes = l .places .marks; closed = false })
-    (laid (record { strokes = l .places .strokes; marks = l .places .marks; finite = finiteVertex v and l .places .finite })
-    (buffers (putAt (l .buffers .vertices) (l .places .strokes) v) (l .buffers .flags) (l .buffers .indexes)))
+    (record {
+      places = record { strokes = l .places .strokes; marks = l .places .marks; finite = finiteVertex v and l .places .finite };
+      buffers = buffers (putAt (l .buffers .vertices) (l .places .strokes) v) (l .buffers .flags) (l .buffers .indexes);
+    })
 
 -- the last span of an open walk: nothing is drawn of a collapsed arc that is alone
 unfoldable pub lasts : ℕ → Bool → Float → Trail → Finished
@@ -221,15 +232,31 @@ lasts room alone ε r =
     when alone and isCollapsed (r .stood .walker .current) give finished (Done emptyResult) (wiped room 0 0 0 (r .laid .buffers)) else
     finishesOpen room (last .pen) (stores (drawnBy 0 last) (r .laid))
 
--- what it needs
-pub record Lasts (room : ℕ) (s : Sheet) (b : Buffers) : Type 0 where
-  pub outputs : s .walk .pen .number .0 + 1 < 0x1_0000_0000
+-- the closing moves of a closed walk, by its closing join: the last span up to that join, and its connector
+unfoldable pub closes : ℕ → JoinBoundary → Float → Trail → Finished
+closes room k ε r =
+    let w = r .stood .walker in
+    let l = stores (turnStrokes 0 (r .stood .pen) (spanTo w (k .«current_end») (k .«current_param»)) (connectorMove (w .source .0) k) ε) (r .laid) in
+    finishes room (record { vertices = l .places .strokes; indexes = l .places .marks; closed = not (eqb (l .places .strokes) 0) }) l
+
+-- what the last moves need: room for two
+pub record Lasts (room : ℕ) (h : Sheet) (b : Buffers) : Type 0 where
+  pub outputs : h .walk .pen .number .0 + 2 < 0x1_0000_0000
   pub small : room ≤ 12288
-  pub strokes : s .places .strokes + 2 ≤ room
-  pub marks : s .places .marks + 1 ≤ room
+  pub strokes : h .places .strokes + 2 ≤ room
+  pub marks : h .places .marks + 2 ≤ room
   pub vertices : 3 * room ≤ length (b .vertices)
   pub flags : room ≤ length (b .flags)
   pub indexes : room ≤ length (b .indexes)
+
+-- a walk that is led in and has drawn nothing
+pub record Entered (h : Sheet) : Type 0 where
+  pub fit : Fit (h .walk)
+  pub leading : h .walk .leading ≡ 0
+  pub source : h .walk .source .0 ≡ 0
+  pub number : h .walk .pen .number .0 ≡ 0
+  pub strokes : h .places .strokes ≡ 0
+  pub marks : h .places .marks ≡ 0
 
 -- what becomes of a drawing d (01 §1, No. 6)
 unfoldable pub builtOf : ℕ → Drawing → Buffers → Finished

@@ -3,25 +3,24 @@
 // with the bulge of the move that leaves it, so that nothing is stored twice.
 ghost use mathlib.Core.Path.{_≡_};
 ghost use mathlib.Core.Bool.{true, false};
-ghost use mathlib.Core.List.{_++_};
 ghost use Prim.Native.Nat.{_+_, _*_, _-_, _≤_, _<_};
 ghost use lib.ListN.{length, set};
-ghost use lib.Dec.{eqb};
 ghost use Rattle.floats.specs.Binary64.{zero};
 ghost use Rattle.floats.specs.Choice.{when_give_else_, _and_};
-ghost use Rattle.floats.specs.Size.{finite};
 ghost use Rattle.angles.specs.Angle.{sweepOf, bulgeOf};
 ghost use Rattle.segments.specs.Vertex.{bulgeIsZero};
 ghost use Rattle.segments.specs.InnerSteps.{chordOf};
 ghost use Rattle.source.specs.Source.{verticesOf, segmentsOf};
-ghost use Rattle.source.specs.InnerSteps.{vertexOf};
+ghost use Rattle.source.specs.InnerSteps.{vertexOf, nextOf};
 ghost use Rattle.sweeps.specs.InnerSteps.{Memo};
 ghost use Rattle.moves.specs.Drawing.{bit, resultOf};
-ghost use Rattle.moves.specs.InnerSteps.{stepOf};
+ghost use Rattle.moves.specs.InnerSteps.{sure};
 ghost use Rattle.walk.specs.Walk.{drawingOf, copied};
-ghost use Rattle.walk.specs.InnerSteps.{Fit, drawnBy};
+ghost use Rattle.walk.specs.InnerSteps.{stood, standingAt, Fit, turnStrokes, penTurned};
 ghost use Rattle.sheet.specs.Buffers.{buffers, shown};
-ghost use Rattle.sheet.specs.InnerSteps.{noPlaces, laid, putAt, stored, stores, bulgedAt, laterOf, trail, advances, firstPlace, turnCount, routeOf, Rooms, Turns, Ready, cleared, wiped, over, Within, finished, finishes, finishesOpen, Lasts, lasts, builtOf};
+ghost use Rattle.sheet.specs.InnerSteps.{noPlaces, reached, laid, putAt, stored, stores, bulgedAt, Begun, reachedLater, laterOf, trail, advances, routed, Rooms, Starts, Ready, cleared, wiped, over, Within, finished, finishes, finishesOpen, Lasts, lasts, closes, Entered, builtOf};
+use joins::JoinBoundary;
+use moves::Move;
 use moves::Pen;
 use moves::RawOffsetResult;
 use moves::Stroke;
@@ -31,12 +30,12 @@ use segments::Settings;
 use walk::Turned;
 use walk::Walk;
 
-// Where the next stroke and the next index go, and whether all numbers stored so far are finite. Places
-// are apart from output numbers: a walk may be handed out in pieces.
+// Where the next stroke and the next index go. `doubt` is a NaN from the first number stored that is not
+// finite on, and else zero. Places are apart from output numbers: a walk may be handed out in pieces.
 pub struct Places {
     pub strokes: usize,
     pub marks: usize,
-    pub finite: bool,
+    pub doubt: f64,
 }
 
 impl Places {
@@ -46,8 +45,15 @@ impl Places {
         Places {
             strokes: 0,
             marks: 0,
-            finite: true,
+            doubt: 0.0,
         }
+    }
+
+    // A NaN alone is not equal to itself.
+    fn all_finite(self) -> bool
+        ensures { λ r. ⌜ r ≡ sure (self .doubt) ⌝ }
+    {
+        self.doubt == self.doubt
     }
 }
 
@@ -100,7 +106,7 @@ pub fn store(
     drawn: bool,
     stroke: Stroke,
 ) -> Places
-    requires { ⌜ (drawn ≡ true → Rooms 1 places (buffers (now vertices) (now flags) (now indexes))) ⌝ }
+    requires { ⌜ (drawn ≡ true → Rooms 1 (laid places (buffers (now vertices) (now flags) (now indexes)))) ⌝ }
     ensures { λ r. ⌜ laid r (buffers (now (vertices .exit)) (now (flags .exit)) (now (indexes .exit))) ≡ when drawn give stored stroke (laid places (buffers (now (vertices .entry)) (now (flags .entry)) (now (indexes .entry)))) else laid places (buffers (now (vertices .entry)) (now (flags .entry)) (now (indexes .entry))) ⌝ }
 {
     if !drawn {
@@ -116,13 +122,13 @@ pub fn store(
     Places {
         strokes: k + 1,
         marks: j + invalid as usize,
-        finite: both(moves::is_finite(vertex), places.finite),
+        doubt: places.doubt + moves::doubt(vertex),
     }
 }
 
 // A bulge that is still to be written, where `due` says so: of the vertex stored at `place`, by what its
 // segment sweeps. It is a long chain of steps that nothing waits for, so it is worked out one turn later,
-// beside the roots of the next join.
+// half of it before that turn's join and half after it: a processor can look ahead of a part of it.
 pub struct Later {
     pub due: bool,
     pub place: usize,
@@ -139,21 +145,34 @@ impl Later {
             sweep: 0.0,
         }
     }
-}
 
-// The bulge that the last turn left. Answers whether all numbers are finite with it.
-fn write_later(vertices: &mut [f64], later: Later, all_finite: bool) -> bool
-    requires { ⌜ (later .due ≡ true → 3 * later .place + 3 ≤ length (now vertices)) ⌝ }
-    ensures { λ r. ⌜ now (vertices .exit) ≡ bulgedAt (later .due) (later .place) (bulgeOf (later .sweep)) (now (vertices .entry)) ⌝ }
-    ensures { λ r. ⌜ r ≡ when later .due give finite (bulgeOf (later .sweep)) and «all_finite» else «all_finite» ⌝ }
-{
-    if later.due {
-        let k = later.place;
-        let bulge = angles::bulge_from_angle(later.sweep);
-        vertices[3 * k + 2] = bulge;
-        return both(floats::is_finite(bulge), all_finite);
+    // The first half of it, before the join.
+    fn begin(self) -> f64
+        ensures { λ r. ⌜ Begun self r ⌝ }
+    {
+        if self.due {
+            return angles::tan_eighth(self.sweep / 4.0);
+        }
+        0.0
     }
-    all_finite
+
+    // The other half, after the join.
+    fn write(self, vertices: &mut [f64], half: f64, places: Places) -> Places
+        requires { ⌜ Begun self half × (self .due ≡ true → 3 * self .place + 3 ≤ length (now vertices)) ⌝ }
+        ensures { λ r. ⌜ (now (vertices .exit) ≡ bulgedAt (self .due) (self .place) (bulgeOf (self .sweep)) (now (vertices .entry))) × (reached r ≡ reachedLater self (reached places)) ⌝ }
+    {
+        if !self.due {
+            return places;
+        }
+        let k = self.place;
+        let bulge = angles::tan_by_eighth(half);
+        vertices[3 * k + 2] = bulge;
+        Places {
+            strokes: places.strokes,
+            marks: places.marks,
+            doubt: places.doubt + (bulge - bulge),
+        }
+    }
 }
 
 // What a turn leaves: the pen and the places after its strokes, and the bulge that is still to be
@@ -174,9 +193,9 @@ fn store_turn(
     turned: Turned,
     eps: f64,
 ) -> Left
-    requires { ⌜ (turned .walk .leading ≡ 0 → Rooms 2 places (buffers (now vertices) (now flags) (now indexes))) × (turned .walk .pen .number .0 + 2 < 0x1_0000_0000) ⌝ }
-    ensures { λ r. ⌜ laid (r .places) (buffers (now (vertices .exit)) (now (flags .exit)) (now (indexes .exit))) ≡ stores (drawnBy (turned .walk .leading) (stepOf (turned .walk .pen) (turned .span) eps) ++ drawnBy (turned .walk .leading) (stepOf (stepOf (turned .walk .pen) (turned .span) eps .pen) (turned .connector) eps)) (laid places (buffers (now (vertices .entry)) (now (flags .entry)) (now (indexes .entry)))) ⌝ }
-    ensures { λ r. ⌜ (r .pen ≡ stepOf (stepOf (turned .walk .pen) (turned .span) eps .pen) (turned .connector) eps .pen) × (r .later ≡ laterOf places turned eps) ⌝ }
+    requires { ⌜ (turned .walk .leading ≡ 0 → Rooms 2 (laid places (buffers (now vertices) (now flags) (now indexes)))) × (turned .walk .pen .number .0 + 2 < 0x1_0000_0000) ⌝ }
+    ensures { λ r. ⌜ laid (r .places) (buffers (now (vertices .exit)) (now (flags .exit)) (now (indexes .exit))) ≡ stores (turnStrokes (turned .walk .leading) (turned .walk .pen) (turned .span) (turned .connector) eps) (laid places (buffers (now (vertices .entry)) (now (flags .entry)) (now (indexes .entry)))) ⌝ }
+    ensures { λ r. ⌜ (r .pen ≡ penTurned (turned .walk .pen) (turned .span) (turned .connector) eps) × (r .later ≡ laterOf (places .strokes) turned eps) ⌝ }
 {
     let walk = turned.walk;
     let pen = walk.pen;
@@ -224,74 +243,61 @@ fn sweep_from(
     sweeps::sweep_of(keys, sweeps, vertex.bulge, source, k, stop)
 }
 
-// The place of the vertex that a walk turns to first, and how many turns it makes: an open one stands
-// at its first vertex, a closed one at its last, and goes once around and on to the second.
-fn first_place(closed: bool) -> usize
-    ensures { λ r. ⌜ r ≡ firstPlace closed ⌝ }
-{
-    if closed {
-        return 0;
-    }
-    1
-}
-
-fn turn_count(v: usize, closed: bool) -> usize
-    requires { ⌜ (2 ≤ v) × (v ≤ 4096) ⌝ }
-    ensures { λ r. ⌜ r ≡ turnCount closed v ⌝ }
-{
-    if closed {
-        return v + 2;
-    }
-    v - 1
-}
-
 // The walk, and how far its strokes are stored.
 pub struct Sheet {
     pub walk: Walk,
     pub places: Places,
 }
 
-// All turns of a walk. All joins and segments are made by this one loop, those that lead in too: what is
-// called from one place alone is compiled into that place, and what it hands back need not go through
-// memory. (The loop itself is called from two.) Each chord is worked out one turn ahead, so that its root
-// does not wait for the turn, sweeps are kept by their bulge, and a bulge is written one turn later.
+impl Sheet {
+    // At a vertex, with so many turns that lead in from there, and nothing stored.
+    fn standing(vertex: PlineVertex, leading: u32) -> Sheet
+        ensures { λ r. ⌜ (stood (r .walk) ≡ standingAt vertex leading) × Fit (r .walk) × (r .places ≡ noPlaces) ⌝ }
+    {
+        let walk = Walk::standing(vertex, leading);
+        let places = Places::none();
+        Sheet { walk, places }
+    }
+}
+
+// So many turns of a walk, to the vertices from place `from` on; after the last comes the first. All joins
+// and segments are made by this one loop, those that lead in too: what is called from one place alone is
+// compiled into that place, and what it hands back need not go through memory. (The loop itself is called
+// from three.) Each chord is worked out one turn ahead, so that its root does not wait for the turn. A
+// sweep is kept by its bulge, and asked for right before its segment, which asks for an arc too: compiled,
+// the two are one test. A bulge is written one turn later.
 fn store_turns(
     source: &[f64],
     v: usize,
     closed: bool,
-    first: Walk,
-    start: Places,
+    from: usize,
+    turns: usize,
+    first: Sheet,
     settings: Settings,
     vertices: &mut [f64],
     flags: &mut [u8],
     indexes: &mut [u32],
 ) -> Sheet
-    requires { ⌜ (3 * v ≡ length (now source)) × ((2 ≤ v) × (v ≤ 4096)) ⌝ }
-    requires { ⌜ Turns (turnCount closed v) first start (buffers (now vertices) (now flags) (now indexes)) ⌝ }
-    ensures { λ r. ⌜ trail r (buffers (now (vertices .exit)) (now (flags .exit)) (now (indexes .exit))) ≡ advances closed settings (routeOf closed v (now (source .entry))) (trail (record { walk = first; places = start }) (buffers (now (vertices .entry)) (now (flags .entry)) (now (indexes .entry)))) ⌝ }
+    requires { ⌜ Starts v «from» turns first (now source) (buffers (now vertices) (now flags) (now indexes)) ⌝ }
+    ensures { λ r. ⌜ trail r (buffers (now (vertices .exit)) (now (flags .exit)) (now (indexes .exit))) ≡ advances closed settings (routed v turns «from» (now (source .entry))) (trail first (buffers (now (vertices .entry)) (now (flags .entry)) (now (indexes .entry)))) ⌝ }
+    ensures { λ r. ⌜ Fit (r .walk) ⌝ }
 {
-    let mut k = first_place(closed);
-    let turns = turn_count(v, closed);
-    let mut chord = chord_to(source, k, first.vertex);
+    let mut walk = first.walk;
+    let mut places = first.places;
+    let mut k = from;
+    let mut chord = chord_to(source, k, walk.vertex);
     let mut keys = [0u64; 16];
     let mut sweeps = [0.0; 16];
     let mut later = Later::nothing();
-    let mut walk = first;
-    let mut places = start;
     for _turn in 0..turns {
         let to = source::vertex_at(source, k);
         let next = source::next_place(v, k);
         let ahead = chord_to(source, next, to);
-        // right before its segment, which asks for an arc too: compiled, the two are one test
         let sweep = sweep_from(&mut keys, &mut sweeps, walk.vertex, source, k, v);
         let segment = segments::offset_seg(walk.vertex, to, chord, sweep, settings.offset);
-        let finite = write_later(vertices, later, places.finite);
-        let here = Places {
-            strokes: places.strokes,
-            marks: places.marks,
-            finite,
-        };
+        let half = later.begin();
         let turned = walk.turn(to, segment, settings);
+        let here = later.write(vertices, half, places);
         let left = store_turn(vertices, flags, indexes, here, turned, settings.eps);
         later = left.later;
         places = left.places;
@@ -299,12 +305,7 @@ fn store_turns(
         chord = ahead;
         k = next;
     }
-    let finite = write_later(vertices, later, places.finite);
-    let places = Places {
-        strokes: places.strokes,
-        marks: places.marks,
-        finite,
-    };
+    let places = later.write(vertices, later.begin(), places);
     Sheet { walk, places }
 }
 
@@ -371,7 +372,7 @@ fn finish(
     requires { ⌜ Within room (result .vertices) (places .strokes) (places .marks) (buffers (now vertices) (now flags) (now indexes)) ⌝ }
     ensures { λ r. ⌜ finished r (buffers (now (vertices .exit)) (now (flags .exit)) (now (indexes .exit))) ≡ finishes room result (laid places (buffers (now (vertices .entry)) (now (flags .entry)) (now (indexes .entry)))) ⌝ }
 {
-    if places.finite {
+    if places.all_finite() {
         wipe(
             vertices,
             flags,
@@ -387,8 +388,7 @@ fn finish(
     Built::NotFinite
 }
 
-// A closed walk: led in by two turns, from the last vertex, and once around. Its last turn, to the second
-// vertex again, draws the closing moves.
+// A closed walk: led in by two turns, from the last vertex, by the closing join.
 fn draw_closed(
     source: &[f64],
     v: usize,
@@ -400,26 +400,94 @@ fn draw_closed(
     requires { ⌜ Ready v (2 * v) (now source) (buffers (now vertices) (now flags) (now indexes)) ⌝ }
     ensures { λ r. ⌜ finished r (buffers (now (vertices .exit)) (now (flags .exit)) (now (indexes .exit))) ≡ builtOf (2 * v) (drawingOf true settings (verticesOf (now (source .entry)))) (buffers (now (vertices .entry)) (now (flags .entry)) (now (indexes .entry))) ⌝ }
 {
-    let first = Walk::standing(source::vertex_at(source, v - 1), 2);
-    let start = Places::none();
-    let sheet = store_turns(
+    let first = Sheet::standing(source::vertex_at(source, v - 1), 2);
+    let led = store_turns(
         source,
         v,
         true,
+        0,
+        2,
         first,
-        start,
         settings,
         vertices,
         flags,
         indexes,
     );
-    let places = sheet.places;
+    draw_around(source, v, led, settings, vertices, flags, indexes)
+}
+
+// From the first segment once around, back to its start, and the closing moves.
+fn draw_around(
+    source: &[f64],
+    v: usize,
+    led: Sheet,
+    settings: Settings,
+    vertices: &mut [f64],
+    flags: &mut [u8],
+    indexes: &mut [u32],
+) -> Built
+    requires { ⌜ Ready v (2 * v) (now source) (buffers (now vertices) (now flags) (now indexes)) × Entered led ⌝ }
+    ensures { λ r. ⌜ finished r (buffers (now (vertices .exit)) (now (flags .exit)) (now (indexes .exit))) ≡ closes (2 * v) (led .walk .entry) (settings .eps) (advances true settings (routed v (v - 1) (nextOf v 1) (now (source .entry))) (trail led (buffers (now (vertices .entry)) (now (flags .entry)) (now (indexes .entry))))) ⌝ }
+{
+    let walk = led.walk;
+    let next = source::next_place(v, 1);
+    let sheet = store_turns(
+        source,
+        v,
+        true,
+        next,
+        v - 1,
+        led,
+        settings,
+        vertices,
+        flags,
+        indexes,
+    );
+    draw_closing(
+        vertices,
+        flags,
+        indexes,
+        sheet,
+        walk.entry,
+        settings.eps,
+        2 * v,
+    )
+}
+
+// The closing moves: the last span, up to the closing join, and its connector. Where the two ends of that
+// join are one point, the connector is dropped like any move that leads nowhere.
+fn draw_closing(
+    vertices: &mut [f64],
+    flags: &mut [u8],
+    indexes: &mut [u32],
+    sheet: Sheet,
+    closing: JoinBoundary,
+    eps: f64,
+    room: usize,
+) -> Built
+    requires { ⌜ Lasts room sheet (buffers (now vertices) (now flags) (now indexes)) ⌝ }
+    ensures { λ r. ⌜ finished r (buffers (now (vertices .exit)) (now (flags .exit)) (now (indexes .exit))) ≡ closes room closing eps (trail sheet (buffers (now (vertices .entry)) (now (flags .entry)) (now (indexes .entry)))) ⌝ }
+{
+    let walk = sheet.walk;
+    let span = walk.span_to(closing.current_end, closing.current_param);
+    let first = walk.pen.step(span, eps);
+    let half = store(
+        vertices,
+        flags,
+        indexes,
+        sheet.places,
+        first.kept,
+        first.stroke,
+    );
+    let connector = Move::connector(walk.source, closing);
+    let second = first.pen.step(connector, eps);
+    let places = store(vertices, flags, indexes, half, second.kept, second.stroke);
     let result = RawOffsetResult {
         vertices: places.strokes as u32,
         indexes: places.marks as u32,
         closed: places.strokes != 0,
     };
-    finish(vertices, flags, indexes, places, result, 2 * v)
+    finish(vertices, flags, indexes, places, result, room)
 }
 
 // After an open walk: its last vertex. A lone vertex has no offset geometry.
@@ -440,19 +508,18 @@ fn finish_open(
         wipe(vertices, flags, indexes, room, 0, 0, 0);
         return Built::Done(RawOffsetResult::empty());
     }
-    let vertex = PlineVertex::from_vector2(pen.last, 0.0);
-    let finite = both(moves::is_finite(vertex), places.finite);
+    let last = PlineVertex::from_vector2(pen.last, 0.0);
     let ended = Places {
         strokes: k,
         marks: j,
-        finite,
+        doubt: places.doubt + moves::doubt(last),
     };
     let result = RawOffsetResult {
         vertices: (k + 1) as u32,
         indexes: j as u32,
         closed: false,
     };
-    put_vertex(vertices, k, vertex);
+    put_vertex(vertices, k, last);
     finish(vertices, flags, indexes, ended, result, room)
 }
 
@@ -468,14 +535,14 @@ fn draw_open(
     requires { ⌜ Ready v (2 * (v - 1)) (now source) (buffers (now vertices) (now flags) (now indexes)) ⌝ }
     ensures { λ r. ⌜ finished r (buffers (now (vertices .exit)) (now (flags .exit)) (now (indexes .exit))) ≡ builtOf (2 * (v - 1)) (drawingOf false settings (verticesOf (now (source .entry)))) (buffers (now (vertices .entry)) (now (flags .entry)) (now (indexes .entry))) ⌝ }
 {
-    let first = Walk::standing(source::vertex_at(source, 0), 1);
-    let start = Places::none();
+    let first = Sheet::standing(source::vertex_at(source, 0), 1);
     let sheet = store_turns(
         source,
         v,
         false,
+        1,
+        v - 1,
         first,
-        start,
         settings,
         vertices,
         flags,
@@ -511,7 +578,7 @@ fn draw_last(
         wipe(vertices, flags, indexes, room, 0, 0, 0);
         return Built::Done(RawOffsetResult::empty());
     }
-    let last = walk.pen.step(walk.last_span(), eps);
+    let last = walk.pen.step(walk.span_to(current.end(), 1.0), eps);
     let places = store(
         vertices,
         flags,

@@ -25,7 +25,7 @@ use Rattle.moves.specs.InnerSteps.{penAfter, stepOf, strokes}
 use Rattle.moves.proofs.Kept as K
 use Rattle.moves.proofs.Strokes.{strokes-append}
 use Rattle.walk.specs.Walk.{connectorMoves, joinAt, walk}
-use Rattle.walk.specs.InnerSteps.{Standing, Stood, afterTurn, turnTo, drawnBy, Advance, advance, goes, drawnOn}
+use Rattle.walk.specs.InnerSteps.{Standing, Stood, afterTurn, turnTo, drawnBy, turnStrokes, penTurned, Advance, advance, goes, drawnOn}
 
 -- ---- what a pen draws of a row of moves
 
@@ -63,6 +63,10 @@ module _ (e : Float) where
         left = d′ .left ∙ rw (k, length-append, add-assoc, K.lastPoint-append moveEnd);
       }
 
+  -- two moves, one after the other
+  pub two-drawn : (pen : Pen) (m c : Move) → Draws e pen (m ∷ c ∷ []) (turnStrokes 0 pen m c e) (penTurned pen m c e)
+  two-drawn pen m c = both-drawn (one-drawn pen m) (one-drawn _ c)
+
 -- ---- a walk that is led in
 
 -- at segment i, from a to b, whose span starts at the boundary j
@@ -74,11 +78,6 @@ abbrev pub lastOf : (ℕ → RawOffsetSeg → Float → List Move) → Standing 
 lastOf last w = last (w .source .0) (w .current) (w .entry .«next_param»)
 
 module _ (closed : Bool) (σ : Settings) where
-  pub goes-append : (vs us : List PlineVertex) (w : Stood) → drawnOn closed σ (vs ++ us) w ≡ drawnOn closed σ vs w ++ drawnOn closed σ us (goes closed σ vs w)
-  unfolding drawnOn goes
-  goes-append [] us w = refl
-  goes-append (c ∷ vs) us w = simp (goes-append vs us (advance closed σ c w .stood), append-assoc)
-
   -- a turn of it: its moves are drawn, and it is led in at the next segment
   module _ (i : ℕ) (a b c : PlineVertex) (j : JoinBoundary) (pen : Pen) where
     unfoldable pub turned : Advance
@@ -91,7 +90,7 @@ module _ (closed : Bool) (σ : Settings) where
     pub turn-drawn : let k = joinAt σ a b c in
         Draws (σ .eps) pen (spanMove i (offsetSeg a b (σ .offset)) (j .«next_param») (k .«current_end») (k .«current_param») ∷ connectorMoves i k) (turned .strokes) (turned .stood .pen)
     unfolding turned advance turnTo afterTurn joinAt connectorMoves
-    turn-drawn = both-drawn (σ .eps) (one-drawn (σ .eps) pen _) (one-drawn (σ .eps) _ _)
+    turn-drawn = two-drawn (σ .eps) pen _ _
 
   -- it draws what the rule's walk has, if it draws the last moves
   pub walk-drawn : (last : ℕ → RawOffsetSeg → Float → List Move) (vs : List PlineVertex) (i : ℕ) (a b : PlineVertex) (j : JoinBoundary) (pen : Pen) {s : List Stroke} {q : Pen}

@@ -9,6 +9,7 @@ use lib.Dec.{eqb}
 use lib.Ieee.{Float}
 use Rattle.floats.specs.Binary64.{one}
 use Rattle.floats.specs.Choice.{when_give_else_, _and_}
+use Rattle.vectors.specs.declared.Vector2.{Vector2}
 use Rattle.segments.specs.declared.Settings.{Settings}
 use Rattle.segments.specs.declared.PlineVertex.{PlineVertex}
 use Rattle.segments.specs.declared.RawOffsetSeg.{RawOffsetSeg}
@@ -111,13 +112,25 @@ turnTo w c σ =
 abbrev pub turnShown : Turned → Turn
 turnShown t = record { span = withBulge (bulgeBy (t .curved) (t .sweep)) (t .span); connector = t .connector; walker = stands (t .walk) }
 
--- the span to the end of the segment that the walk stands at
+-- the span of the segment that the walk stands at, up to a point of it; to its end
+abbrev pub spanTo : Standing → Vector2 → Float → Move
+spanTo w e t = spanMove (w .source .0) (w .current) (w .entry .«next_param») e t
+
 unfoldable pub lastSpan : Standing → Move
-lastSpan w = spanMove (w .source .0) (w .current) (w .entry .«next_param») (endOf (w .current)) one
+lastSpan w = spanTo w (endOf (w .current)) one
 
 -- what is drawn of a step: its stroke, where it is kept and the walk is led in
 unfoldable pub drawnBy : ℕ → Stepped → List Stroke
 drawnBy leading st = when eqb leading 0 and st .kept give st .stroke ∷ [] else []
+
+-- a span and a connector: the strokes of the two, and the pen then
+abbrev pub turnStrokes : ℕ → Pen → Move → Move → Float → List Stroke
+turnStrokes leading pen span connector ε =
+    let first = stepOf pen span ε in
+    drawnBy leading first ++ drawnBy leading (stepOf (first .pen) connector ε)
+
+abbrev pub penTurned : Pen → Move → Move → Float → Pen
+penTurned pen span connector ε = stepOf (stepOf pen span ε .pen) connector ε .pen
 
 -- one turn, with its strokes
 pub record Advance : Type 0 where
@@ -127,9 +140,10 @@ pub record Advance : Type 0 where
 unfoldable pub advance : Bool → Settings → PlineVertex → Stood → Advance
 advance closed σ c w =
     let t = turnTo (w .walker) c σ in
-    let first = stepOf (w .pen) (t .span) (σ .eps) in
-    let second = stepOf (first .pen) (t .connector) (σ .eps) in
-    record { strokes = drawnBy (w .leading) first ++ drawnBy (w .leading) second; stood = afterTurn closed (second .pen) (w .leading) (t .walker) }
+    record {
+      strokes = turnStrokes (w .leading) (w .pen) (t .span) (t .connector) (σ .eps);
+      stood = afterTurn closed (penTurned (w .pen) (t .span) (t .connector) (σ .eps)) (w .leading) (t .walker);
+    }
 
 -- ---- a turn for each vertex: where it leads, and the strokes on the way
 

@@ -3,7 +3,9 @@ use borrow.Author.Needs.{needs}
 use mathlib.Core.Path.{sym, _∙_}
 use native.Mathlib.Omega.{arith}
 use Rattle.floats.proofs.Choice.{yes, no}
+use Rattle.walk.specs.InnerSteps.{lastSpan, drawnBy}
 use Rattle.sheet.specs.InnerSteps.{lasts}
+use Rattle.sheet.proofs.Loop.{drawn-few}
 use Rattle.sheet.proofs.Whole.{last-stored, last-within}
 use Rattle.sheet.proofs.draw_last.Statement.{statement}
 use Rattle.sheet.proofs.draw_last.Tie as tie
@@ -23,25 +25,27 @@ returns c =
 
 store-requires : tie.Need-store-requires
 store-requires c κs =
-    let p = c .before .before .before .before .before .before .before .before .before .before .before .before .pre in
+    let p = c .before .before .before .before .before .before .before .before .before .before .before .before .before .pre in
     λ t. record { vertices = omega arith; flags = omega arith; indexes = omega arith }
 
 finish-open-requires : tie.Need-finish-open-requires
 finish-open-requires c κs =
     let half = c .before .before .before .before .before .before .before .before .before in
-    let step = half .before .before .before .before in
+    let last = half .before .before .before .before .step .result in
     let k = half .store .kept in
-    last-within _ _ (step .step .result) (step .before .before .before .before .before .before .before .before .before .pre) (record { vertices = k .0; flags = k .1 .0; indexes = k .1 .1 .0 }) (half .store .ensures)
+    let few = drawn-few 0 last in
+    last-within _ _ _ (half .store .result) (drawnBy 0 last) (half .before .before .before .before .before .before .before .before .before .before .before .before .before .before .pre) (record { vertices = k .0; flags = k .1 .0; indexes = k .1 .1 .0 })
+    (half .store .ensures ∙ last-stored last _) (omega arith) (omega arith)
 
 returns-2 : tie.Need-returns-2
-unfolding lasts
+unfolding lasts lastSpan
 returns-2 c =
     let end = c .before .before .before .before .before .before in
     let half = end .before .before .before .before .before .before .before .before .before .before in
     let last = half .before .before .before .before in
-    let test = last .before .before .before in
-    no _ _ _ (sym (test .both .ensures ∙ rw (test .before .is-collapsed .ensures)) ∙ last .before .before .if1 .left)
-    (rw (end .finish-open .ensures, half .store .ensures, last-stored, last .step .ensures, last .before .last-span .ensures))
+    let test = last .before .before .before .before in
+    no _ _ _ (sym (test .both .ensures ∙ rw (test .before .is-collapsed .ensures)) ∙ last .before .before .before .if1 .left)
+    (rw (end .finish-open .ensures, half .store .ensures, last-stored, last .step .ensures, last .before .span-to .ensures, last .before .before .end .ensures))
 
 pub draw-last-spec : {M : Type 1} → statement M
 draw-last-spec =
@@ -55,6 +59,7 @@ draw-last-spec =
     (λ c. search needs)
     (λ c. search needs)
     returns
+    (λ c κs. tt)
     (λ c κs. tt)
     (λ c κs. search needs)
     store-requires

@@ -2,6 +2,7 @@
 use borrow.Author.Needs.{needs}
 use borrow.Author.Tests.{eq-eqb, ne-eqb}
 use Rattle.floats.proofs.Choice.{yes, no}
+use Rattle.moves.proofs.Finite.{doubt-more}
 use Rattle.sheet.specs.InnerSteps.{finishesOpen}
 use Rattle.sheet.proofs.finish_open.Statement.{statement}
 use Rattle.sheet.proofs.finish_open.Tie as tie
@@ -17,10 +18,10 @@ unfolding finishesOpen
 returns-2 c =
     let end = c .before .before .before .before .before .before in
     let last = end .before .before .before .before .before .before in
-    let both = last .before .before in
-    let vertex = both .before .before in
+    let doubt = last .before .before .before in
+    let vertex = doubt .before in
     no _ _ _ (ne-eqb _ _ (vertex .before .if1 .left))
-    (rw (end .finish .ensures, last .put-vertex .ensures, both .both .ensures, both .before .is-finite .ensures, vertex .from-vector2 .ensures))
+    (rw (end .finish .ensures, last .put-vertex .ensures, doubt .doubt .ensures, doubt-more, vertex .from-vector2 .ensures))
 
 pub finish-open-spec : {M : Type 1} → statement M
 finish-open-spec =
@@ -32,7 +33,6 @@ finish-open-spec =
     (λ c. search needs)
     (λ c. search needs)
     returns
-    (λ c κs. search needs)
     (λ c κs. search needs)
     (λ c κs. search needs)
     (λ c. search needs)

@@ -5,6 +5,7 @@ use native.Mathlib.Omega.{arith}
 use borrow.Author.Tests.{not-true, not-false}
 use Rattle.floats.proofs.Choice.{yes, no}
 use Rattle.moves.proofs.Laws.{byte-bit, byte-small}
+use Rattle.moves.proofs.Finite.{doubt-more}
 use Rattle.sheet.specs.InnerSteps.{stored}
 use Rattle.sheet.proofs.store.Statement.{statement}
 use Rattle.sheet.proofs.store.Tie as tie
@@ -43,7 +44,7 @@ returns-2 c =
     let vertex = flag .before .before .before .before .before in
     let invalid = vertex .before .before in
     yes _ _ _ (not-false _ (invalid .before .before .if1 .left))
-    (rw (c .both .ensures, c .before .is-finite .ensures, flag .put-flag .ensures .0, flag .put-flag .ensures .1, vertex .put-vertex .ensures, byte-bit, invalid .is-invalid .ensures))
+    (rw (c .before .doubt .ensures, doubt-more, flag .put-flag .ensures .0, flag .put-flag .ensures .1, vertex .put-vertex .ensures, byte-bit, invalid .is-invalid .ensures))
 
 pub store-spec : {M : Type 1} → statement M
 store-spec =
@@ -56,7 +57,6 @@ store-spec =
     add-t20
     (λ c. search needs)
     add-t22
-    (λ c κs. search needs)
     (λ c κs. search needs)
     (λ c. search needs)
     (λ c. search needs)

@@ -20,8 +20,7 @@ step-requires-2 c κs =
 store-requires-2 : tie.Need-store-requires-2
 store-requires-2 c κs =
     let half = c .before .before .before .before .before .before .before .before .before .before .before in
-    let start = half .before .before .before .before .before .before .before .before .before .before .before .before .before in
-    λ t. drawn-leaves _ _ (half .store .ensures) (drawn-room _ _ (c .before .before .before .both3 .ensures) (start .pre .0) t)
+    λ t. drawn-leaves _ _ (half .store .ensures) (drawn-room _ _ (c .before .before .before .both3 .ensures) (half .before .before .before .before .before .before .before .before .before .before .before .before .before .pre .0) t)
 
 returns : tie.Need-returns
 returns c =

@@ -1,5 +1,5 @@
 -- `moves::Reason::of_span` meets its contract. Assumes nothing.
-use mathlib.Core.Path.{refl, sym, _∙_}
+use mathlib.Core.Path.{refl}
 use Rattle.floats.proofs.Choice.{yes, no, told}
 use Rattle.moves.specs.Reason.{spanReason}
 use Rattle.moves.proofs.Reason.of_span.Statement.{statement}

@@ -1,7 +1,7 @@
 -- `walk::Walk::after` meets its contract. Assumes nothing.
 use mathlib.Core.Path.{sym, ap, _∙_}
 use Prim.Native.Nat.{ℕ}
-use Rattle.walk.specs.InnerSteps.{Stood, stands}
+use Rattle.walk.specs.InnerSteps.{stands}
 use Rattle.walk.proofs.Entered.{enters, goes-on}
 use Rattle.walk.proofs.Walk.after.Statement.{statement}
 use Rattle.walk.proofs.Walk.after.Tie as tie

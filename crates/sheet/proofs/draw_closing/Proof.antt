@@ -1,0 +1,100 @@
+-- `sheet::draw_closing` meets its contract. Assumes nothing.
+use borrow.Author.Needs.{needs}
+use mathlib.Core.Path.{_∙_}
+use Prim.Native.Nat.{_≤_}
+use native.Mathlib.Omega.{arith}
+use Rattle.sheet.specs.InnerSteps.{Alike}
+use Rattle.sheet.proofs.Storing.{step-small, drawn-leaves}
+use Rattle.sheet.proofs.Whole.{closing-within, closing-done}
+use Rattle.sheet.proofs.draw_closing.Statement.{statement}
+use Rattle.sheet.proofs.draw_closing.Tie as tie
+
+store-requires : tie.Need-store-requires
+store-requires c κs =
+    let p = c .before .before .before .before .before .before .before .before .before .pre in
+    λ t. record { vertices = omega arith; flags = omega arith; indexes = omega arith }
+
+step-requires-2 : tie.Need-step-requires-2
+step-requires-2 c κs =
+    let first = c .before .before .before .before .before .before .before .before .before .before .before in
+    step-small _ _ _ _ (first .step .ensures) (first .before .before .before .before .before .before .pre .outputs)
+
+store-requires-2 : tie.Need-store-requires-2
+store-requires-2 c κs =
+    let half = c .before .before .before .before .before .before .before .before .before .before .before in
+    let p = half .before .before .before .before .before .before .before .before .before .before .pre in
+    λ t. drawn-leaves _ _ (half .store .ensures) (record { vertices = omega arith; flags = omega arith; indexes = omega arith })
+
+finish-requires : tie.Need-finish-requires
+finish-requires c κs =
+    let all = c .before .before .before .before .before .before .before .before .before .before .before .before in
+    let two = all .before .before .before .before in
+    let half = two .before .before .before .before .before .before .before .before in
+    let one = half .before .before .before .before in
+    let a = all .store2 .kept in
+    let h = half .store .kept in
+    let alike : Alike _ _ = record { vertices = a .0 ∙ h .0; flags = a .1 .0 ∙ h .1 .0; indexes = a .1 .1 .0 ∙ h .1 .1 .0 } in
+    closing-within _ _ _ _ (one .step .result) (two .step2 .result) (half .store .result) (all .store2 .result) (one .before .before .before .before .before .before .pre) alike
+    (one .before .span-to .ensures) (one .step .ensures) (half .store .ensures) (two .before .connector .ensures) (two .step2 .ensures) (all .store2 .ensures)
+
+-- both counts are small
+few : (c : tie.After-store2) → (c .store2 .result .strokes ≤ 12288) × (c .store2 .result .marks ≤ 12288)
+few all =
+    let two = all .before .before .before .before in
+    let half = two .before .before .before .before .before .before .before .before in
+    let one = half .before .before .before .before in
+    let a = all .store2 .kept in
+    let h = half .store .kept in
+    let alike : Alike _ _ = record { vertices = a .0 ∙ h .0; flags = a .1 .0 ∙ h .1 .0; indexes = a .1 .1 .0 ∙ h .1 .1 .0 } in
+    let w = closing-within _ _ _ _ (one .step .result) (two .step2 .result) (half .store .result) (all .store2 .result) (one .before .before .before .before .before .before .pre) alike
+    (one .before .span-to .ensures) (one .step .ensures) (half .store .ensures) (two .before .connector .ensures) (two .step2 .ensures) (all .store2 .ensures) in
+    (omega (arith, w .from-flag, w .small), omega (arith, w .from-index, w .small))
+
+same-length : tie.Need-same-length
+same-length c =
+    let end = c .before .before .before .before .before .before in
+    let all = end .before .before .before .before .before .before .before .before .before .before .before .before .before in
+    end .finish .kept .0 ∙ all .store2 .kept .0 ∙ all .before .before .before .before .before .before .before .before .before .before .before .before .store .kept .0
+
+same-length-2 : tie.Need-same-length-2
+same-length-2 c =
+    let end = c .before .before .before .before .before .before in
+    let all = end .before .before .before .before .before .before .before .before .before .before .before .before .before in
+    end .finish .kept .1 .0 ∙ all .store2 .kept .1 .0 ∙ all .before .before .before .before .before .before .before .before .before .before .before .before .store .kept .1 .0
+
+same-length-3 : tie.Need-same-length-3
+same-length-3 c =
+    let end = c .before .before .before .before .before .before in
+    let all = end .before .before .before .before .before .before .before .before .before .before .before .before .before in
+    end .finish .kept .1 .1 .0 ∙ all .store2 .kept .1 .1 .0 ∙ all .before .before .before .before .before .before .before .before .before .before .before .before .store .kept .1 .1 .0
+
+returns : tie.Need-returns
+returns c =
+    let end = c .before .before .before .before .before .before in
+    let all = end .before .before .before .before .before .before .before .before .before .before .before .before .before in
+    let two = all .before .before .before .before in
+    let half = two .before .before .before .before .before .before .before .before in
+    let one = half .before .before .before .before in
+    let a = all .store2 .kept in
+    let h = half .store .kept in
+    let alike : Alike _ _ = record { vertices = a .0 ∙ h .0; flags = a .1 .0 ∙ h .1 .0; indexes = a .1 .1 .0 ∙ h .1 .1 .0 } in
+    end .finish .ensures ∙ closing-done _ _ _ _ (one .step .result) (two .step2 .result) (half .store .result) (all .store2 .result) (one .before .before .before .before .before .before .pre) alike
+    (one .before .span-to .ensures) (one .step .ensures) (half .store .ensures) (two .before .connector .ensures) (two .step2 .ensures) (all .store2 .ensures)
+
+pub draw-closing-spec : {M : Type 1} → statement M
+draw-closing-spec =
+    tie.close
+    (tie.spec
+    (λ c κs. tt)
+    (λ c κs. search needs)
+    store-requires
+    (λ c κs. tt)
+    step-requires-2
+    store-requires-2
+    (λ c. omega (arith, few (c .before .before .before .before .before .before .before) .0))
+    (λ c. omega (arith, few (c .before .before .before .before .before .before .before .before) .1))
+    finish-requires
+    same-length
+    same-length-2
+    same-length-3
+    returns)
