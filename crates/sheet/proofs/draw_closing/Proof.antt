@@ -1,9 +1,9 @@
 -- `sheet::draw_closing` meets its contract. Assumes nothing.
 use borrow.Author.Needs.{needs}
 use mathlib.Core.Path.{_∙_}
-use Prim.Native.Nat.{_≤_}
 use native.Mathlib.Omega.{arith}
-use Rattle.sheet.specs.InnerSteps.{Alike}
+use Rattle.sheet.specs.Buffers.{buffers}
+use Rattle.sheet.specs.InnerSteps.{Alike, Within}
 use Rattle.sheet.proofs.Storing.{step-small, drawn-leaves}
 use Rattle.sheet.proofs.Whole.{closing-within, closing-done}
 use Rattle.sheet.proofs.draw_closing.Statement.{statement}
@@ -25,30 +25,19 @@ store-requires-2 c κs =
     let p = half .before .before .before .before .before .before .before .before .before .before .pre in
     λ t. drawn-leaves _ _ (half .store .ensures) (record { vertices = omega arith; flags = omega arith; indexes = omega arith })
 
-finish-requires : tie.Need-finish-requires
-finish-requires c κs =
-    let all = c .before .before .before .before .before .before .before .before .before .before .before .before in
-    let two = all .before .before .before .before in
+-- after both moves there is room
+within : (c : tie.After-store2)
+    → Within (c .before .before .before .before .before .before .before .before .before .before .before .before .before .before .before .before .before .before .before .before .before .before .args .room) (c .store2 .result .strokes) (c .store2 .result .strokes) (c .store2 .result .marks)
+    (buffers (c .store2 .last .0) (c .store2 .last .1 .0) (c .store2 .last .1 .1 .0))
+within c =
+    let two = c .before .before .before .before in
     let half = two .before .before .before .before .before .before .before .before in
     let one = half .before .before .before .before in
-    let a = all .store2 .kept in
+    let a = c .store2 .kept in
     let h = half .store .kept in
     let alike : Alike _ _ = record { vertices = a .0 ∙ h .0; flags = a .1 .0 ∙ h .1 .0; indexes = a .1 .1 .0 ∙ h .1 .1 .0 } in
-    closing-within _ _ _ _ (one .step .result) (two .step2 .result) (half .store .result) (all .store2 .result) (one .before .before .before .before .before .before .pre) alike
-    (one .before .span-to .ensures) (one .step .ensures) (half .store .ensures) (two .before .connector .ensures) (two .step2 .ensures) (all .store2 .ensures)
-
--- both counts are small
-few : (c : tie.After-store2) → (c .store2 .result .strokes ≤ 12288) × (c .store2 .result .marks ≤ 12288)
-few all =
-    let two = all .before .before .before .before in
-    let half = two .before .before .before .before .before .before .before .before in
-    let one = half .before .before .before .before in
-    let a = all .store2 .kept in
-    let h = half .store .kept in
-    let alike : Alike _ _ = record { vertices = a .0 ∙ h .0; flags = a .1 .0 ∙ h .1 .0; indexes = a .1 .1 .0 ∙ h .1 .1 .0 } in
-    let w = closing-within _ _ _ _ (one .step .result) (two .step2 .result) (half .store .result) (all .store2 .result) (one .before .before .before .before .before .before .pre) alike
-    (one .before .span-to .ensures) (one .step .ensures) (half .store .ensures) (two .before .connector .ensures) (two .step2 .ensures) (all .store2 .ensures) in
-    (omega (arith, w .from-flag, w .small), omega (arith, w .from-index, w .small))
+    closing-within _ _ _ _ (one .step .result) (two .step2 .result) (half .store .result) (c .store2 .result) (one .before .before .before .before .before .before .pre) alike
+    (one .before .span-to .ensures) (one .step .ensures) (half .store .ensures) (two .before .connector .ensures) (two .step2 .ensures) (c .store2 .ensures)
 
 same-length : tie.Need-same-length
 same-length c =
@@ -91,9 +80,9 @@ draw-closing-spec =
     (λ c κs. tt)
     step-requires-2
     store-requires-2
-    (λ c. omega (arith, few (c .before .before .before .before .before .before .before) .0))
-    (λ c. omega (arith, few (c .before .before .before .before .before .before .before .before) .1))
-    finish-requires
+    (λ c. let w = within (c .before .before .before .before .before .before .before) in omega (arith, w .from-flag, w .small))
+    (λ c. let w = within (c .before .before .before .before .before .before .before .before) in omega (arith, w .from-index, w .small))
+    (λ c κs. within (c .before .before .before .before .before .before .before .before .before .before .before .before))
     same-length
     same-length-2
     same-length-3
