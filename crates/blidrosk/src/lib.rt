@@ -18,7 +18,8 @@ pub extern "C" fn blidrosk_raw_offset(
     indexes: &mut [u32],
     answer: &mut [u32; 5],
 ) -> u32
-    ensures { λ r. ⌜ handed r (now (answer .exit)) (buffers (now (vertices .exit)) (now (flags .exit)) (now (indexes .exit))) ≡ handedOf (jobOf (now (source .entry)) closed (record { offset = offset; eps = eps }) (buffers (now (vertices .entry)) (now (flags .entry)) (now (indexes .entry)))) ⌝ }
+    ensures { λ r. ⌜ handed r (now (answer .exit)) (buffers (now (vertices .exit)) (now (flags .exit)) (now (indexes .exit)))
+        ≡ handedOf (jobOf (now (source .entry)) closed (record { offset = offset; eps = eps }) (buffers (now (vertices .entry)) (now (flags .entry)) (now (indexes .entry)))) ⌝ }
 {
     let settings = Settings { offset, eps };
     let a = job::create_raw_offset(source, closed, settings, vertices, flags, indexes);

@@ -68,7 +68,8 @@ pub fn create_raw_offset(
     flags: &mut [u8],
     indexes: &mut [u32],
 ) -> RawOffsetAnswer
-    ensures { λ r. ⌜ ending r (buffers (now (vertices .exit)) (now (flags .exit)) (now (indexes .exit))) ≡ jobOf (now (source .entry)) closed settings (buffers (now (vertices .entry)) (now (flags .entry)) (now (indexes .entry))) ⌝ }
+    ensures { λ r. ⌜ ending r (buffers (now (vertices .exit)) (now (flags .exit)) (now (indexes .exit)))
+        ≡ jobOf (now (source .entry)) closed settings (buffers (now (vertices .entry)) (now (flags .entry)) (now (indexes .entry))) ⌝ }
 {
     if source.len() % 3 != 0 {
         return RawOffsetAnswer::Refused(Refusal::Ragged);
@@ -105,7 +106,8 @@ fn offset_good(
     indexes: &mut [u32],
 ) -> RawOffsetAnswer
     requires { ⌜ Counted v (now source) ⌝ }
-    ensures { λ r. ⌜ ending r (buffers (now (vertices .exit)) (now (flags .exit)) (now (indexes .exit))) ≡ fromRoom v (now (source .entry)) closed settings (buffers (now (vertices .entry)) (now (flags .entry)) (now (indexes .entry))) ⌝ }
+    ensures { λ r. ⌜ ending r (buffers (now (vertices .exit)) (now (flags .exit)) (now (indexes .exit)))
+        ≡ fromRoom v (now (source .entry)) closed settings (buffers (now (vertices .entry)) (now (flags .entry)) (now (indexes .entry))) ⌝ }
 {
     let room = MOVES_A_SEGMENT * source::segment_count(v, closed);
     if !has_room(room, vertices.len(), flags.len(), indexes.len()) {
@@ -128,7 +130,8 @@ fn offset_nonzero(
     indexes: &mut [u32],
 ) -> RawOffsetAnswer
     requires { ⌜ Ready v (roomFor closed v) (now source) (buffers (now vertices) (now flags) (now indexes)) ⌝ }
-    ensures { λ r. ⌜ ending r (buffers (now (vertices .exit)) (now (flags .exit)) (now (indexes .exit))) ≡ placed (roomFor closed v) (distinctVerdict closed settings (verticesOf (now (source .entry)))) (buffers (now (vertices .entry)) (now (flags .entry)) (now (indexes .entry))) ⌝ }
+    ensures { λ r. ⌜ ending r (buffers (now (vertices .exit)) (now (flags .exit)) (now (indexes .exit)))
+        ≡ placed (roomFor closed v) (distinctVerdict closed settings (verticesOf (now (source .entry)))) (buffers (now (vertices .entry)) (now (flags .entry)) (now (indexes .entry))) ⌝ }
 {
     let repeated = refusals::first_repeated(source, v, closed, settings.eps);
     if let Place::At(k) = repeated {

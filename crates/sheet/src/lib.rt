@@ -107,7 +107,8 @@ pub fn store(
     stroke: Stroke,
 ) -> Places
     requires { ⌜ (drawn ≡ true → Rooms 1 (laid places (buffers (now vertices) (now flags) (now indexes)))) ⌝ }
-    ensures { λ r. ⌜ laid r (buffers (now (vertices .exit)) (now (flags .exit)) (now (indexes .exit))) ≡ when drawn give stored stroke (laid places (buffers (now (vertices .entry)) (now (flags .entry)) (now (indexes .entry)))) else laid places (buffers (now (vertices .entry)) (now (flags .entry)) (now (indexes .entry))) ⌝ }
+    ensures { λ r. ⌜ laid r (buffers (now (vertices .exit)) (now (flags .exit)) (now (indexes .exit)))
+        ≡ when drawn give stored stroke (laid places (buffers (now (vertices .entry)) (now (flags .entry)) (now (indexes .entry)))) else laid places (buffers (now (vertices .entry)) (now (flags .entry)) (now (indexes .entry))) ⌝ }
 {
     if !drawn {
         return places;
@@ -194,7 +195,8 @@ fn store_turn(
     eps: f64,
 ) -> Left
     requires { ⌜ (turned .walk .leading ≡ 0 → Rooms 2 (laid places (buffers (now vertices) (now flags) (now indexes)))) × (turned .walk .pen .number .0 + 2 < 0x1_0000_0000) ⌝ }
-    ensures { λ r. ⌜ laid (r .places) (buffers (now (vertices .exit)) (now (flags .exit)) (now (indexes .exit))) ≡ stores (turnStrokes (turned .walk .leading) (turned .walk .pen) (turned .span) (turned .connector) eps) (laid places (buffers (now (vertices .entry)) (now (flags .entry)) (now (indexes .entry)))) ⌝ }
+    ensures { λ r. ⌜ laid (r .places) (buffers (now (vertices .exit)) (now (flags .exit)) (now (indexes .exit)))
+        ≡ stores (turnStrokes (turned .walk .leading) (turned .walk .pen) (turned .span) (turned .connector) eps) (laid places (buffers (now (vertices .entry)) (now (flags .entry)) (now (indexes .entry)))) ⌝ }
     ensures { λ r. ⌜ (r .pen ≡ penTurned (turned .walk .pen) (turned .span) (turned .connector) eps) × (r .later ≡ laterOf (places .strokes) turned eps) ⌝ }
 {
     let walk = turned.walk;
@@ -279,7 +281,8 @@ fn store_turns(
     indexes: &mut [u32],
 ) -> Sheet
     requires { ⌜ Starts v «from» turns first (now source) (buffers (now vertices) (now flags) (now indexes)) ⌝ }
-    ensures { λ r. ⌜ trail r (buffers (now (vertices .exit)) (now (flags .exit)) (now (indexes .exit))) ≡ advances closed settings (routed v turns «from» (now (source .entry))) (trail first (buffers (now (vertices .entry)) (now (flags .entry)) (now (indexes .entry)))) ⌝ }
+    ensures { λ r. ⌜ trail r (buffers (now (vertices .exit)) (now (flags .exit)) (now (indexes .exit)))
+        ≡ advances closed settings (routed v turns «from» (now (source .entry))) (trail first (buffers (now (vertices .entry)) (now (flags .entry)) (now (indexes .entry)))) ⌝ }
     ensures { λ r. ⌜ Fit (r .walk) ⌝ }
 {
     let mut walk = first.walk;
@@ -370,7 +373,8 @@ fn finish(
     room: usize,
 ) -> Built
     requires { ⌜ Within room (result .vertices) (places .strokes) (places .marks) (buffers (now vertices) (now flags) (now indexes)) ⌝ }
-    ensures { λ r. ⌜ finished r (buffers (now (vertices .exit)) (now (flags .exit)) (now (indexes .exit))) ≡ finishes room result (laid places (buffers (now (vertices .entry)) (now (flags .entry)) (now (indexes .entry)))) ⌝ }
+    ensures { λ r. ⌜ finished r (buffers (now (vertices .exit)) (now (flags .exit)) (now (indexes .exit)))
+        ≡ finishes room result (laid places (buffers (now (vertices .entry)) (now (flags .entry)) (now (indexes .entry)))) ⌝ }
 {
     if places.all_finite() {
         wipe(
@@ -398,7 +402,8 @@ fn draw_closed(
     indexes: &mut [u32],
 ) -> Built
     requires { ⌜ Ready v (2 * v) (now source) (buffers (now vertices) (now flags) (now indexes)) ⌝ }
-    ensures { λ r. ⌜ finished r (buffers (now (vertices .exit)) (now (flags .exit)) (now (indexes .exit))) ≡ builtOf (2 * v) (drawingOf true settings (verticesOf (now (source .entry)))) (buffers (now (vertices .entry)) (now (flags .entry)) (now (indexes .entry))) ⌝ }
+    ensures { λ r. ⌜ finished r (buffers (now (vertices .exit)) (now (flags .exit)) (now (indexes .exit)))
+        ≡ builtOf (2 * v) (drawingOf true settings (verticesOf (now (source .entry)))) (buffers (now (vertices .entry)) (now (flags .entry)) (now (indexes .entry))) ⌝ }
 {
     let first = Sheet::standing(source::vertex_at(source, v - 1), 2);
     let led = store_turns(
@@ -427,7 +432,8 @@ fn draw_around(
     indexes: &mut [u32],
 ) -> Built
     requires { ⌜ Ready v (2 * v) (now source) (buffers (now vertices) (now flags) (now indexes)) × Entered led ⌝ }
-    ensures { λ r. ⌜ finished r (buffers (now (vertices .exit)) (now (flags .exit)) (now (indexes .exit))) ≡ closes (2 * v) (led .walk .entry) (settings .eps) (advances true settings (routed v (v - 1) (nextOf v 1) (now (source .entry))) (trail led (buffers (now (vertices .entry)) (now (flags .entry)) (now (indexes .entry))))) ⌝ }
+    ensures { λ r. ⌜ finished r (buffers (now (vertices .exit)) (now (flags .exit)) (now (indexes .exit)))
+        ≡ closes (2 * v) (led .walk .entry) (settings .eps) (advances true settings (routed v (v - 1) (nextOf v 1) (now (source .entry))) (trail led (buffers (now (vertices .entry)) (now (flags .entry)) (now (indexes .entry))))) ⌝ }
 {
     let walk = led.walk;
     let next = source::next_place(v, 1);
@@ -466,7 +472,8 @@ fn draw_closing(
     room: usize,
 ) -> Built
     requires { ⌜ Lasts room sheet (buffers (now vertices) (now flags) (now indexes)) ⌝ }
-    ensures { λ r. ⌜ finished r (buffers (now (vertices .exit)) (now (flags .exit)) (now (indexes .exit))) ≡ closes room closing eps (trail sheet (buffers (now (vertices .entry)) (now (flags .entry)) (now (indexes .entry)))) ⌝ }
+    ensures { λ r. ⌜ finished r (buffers (now (vertices .exit)) (now (flags .exit)) (now (indexes .exit)))
+        ≡ closes room closing eps (trail sheet (buffers (now (vertices .entry)) (now (flags .entry)) (now (indexes .entry)))) ⌝ }
 {
     let walk = sheet.walk;
     let span = walk.span_to(closing.current_end, closing.current_param);
@@ -500,7 +507,8 @@ fn finish_open(
     room: usize,
 ) -> Built
     requires { ⌜ Within room (places .strokes + 1) (places .strokes) (places .marks) (buffers (now vertices) (now flags) (now indexes)) ⌝ }
-    ensures { λ r. ⌜ finished r (buffers (now (vertices .exit)) (now (flags .exit)) (now (indexes .exit))) ≡ finishesOpen room pen (laid places (buffers (now (vertices .entry)) (now (flags .entry)) (now (indexes .entry)))) ⌝ }
+    ensures { λ r. ⌜ finished r (buffers (now (vertices .exit)) (now (flags .exit)) (now (indexes .exit)))
+        ≡ finishesOpen room pen (laid places (buffers (now (vertices .entry)) (now (flags .entry)) (now (indexes .entry)))) ⌝ }
 {
     let k = places.strokes;
     let j = places.marks;
@@ -533,7 +541,8 @@ fn draw_open(
     indexes: &mut [u32],
 ) -> Built
     requires { ⌜ Ready v (2 * (v - 1)) (now source) (buffers (now vertices) (now flags) (now indexes)) ⌝ }
-    ensures { λ r. ⌜ finished r (buffers (now (vertices .exit)) (now (flags .exit)) (now (indexes .exit))) ≡ builtOf (2 * (v - 1)) (drawingOf false settings (verticesOf (now (source .entry)))) (buffers (now (vertices .entry)) (now (flags .entry)) (now (indexes .entry))) ⌝ }
+    ensures { λ r. ⌜ finished r (buffers (now (vertices .exit)) (now (flags .exit)) (now (indexes .exit)))
+        ≡ builtOf (2 * (v - 1)) (drawingOf false settings (verticesOf (now (source .entry)))) (buffers (now (vertices .entry)) (now (flags .entry)) (now (indexes .entry))) ⌝ }
 {
     let first = Sheet::standing(source::vertex_at(source, 0), 1);
     let sheet = store_turns(
@@ -570,7 +579,8 @@ fn draw_last(
     room: usize,
 ) -> Built
     requires { ⌜ Lasts room sheet (buffers (now vertices) (now flags) (now indexes)) ⌝ }
-    ensures { λ r. ⌜ finished r (buffers (now (vertices .exit)) (now (flags .exit)) (now (indexes .exit))) ≡ lasts room alone eps (trail sheet (buffers (now (vertices .entry)) (now (flags .entry)) (now (indexes .entry)))) ⌝ }
+    ensures { λ r. ⌜ finished r (buffers (now (vertices .exit)) (now (flags .exit)) (now (indexes .exit)))
+        ≡ lasts room alone eps (trail sheet (buffers (now (vertices .entry)) (now (flags .entry)) (now (indexes .entry)))) ⌝ }
 {
     let walk = sheet.walk;
     let current = walk.current;
@@ -601,7 +611,8 @@ pub fn draw(
     indexes: &mut [u32],
 ) -> Built
     requires { ⌜ Ready v (2 * segmentsOf closed v) (now source) (buffers (now vertices) (now flags) (now indexes)) ⌝ }
-    ensures { λ r. ⌜ finished r (buffers (now (vertices .exit)) (now (flags .exit)) (now (indexes .exit))) ≡ builtOf (2 * segmentsOf closed v) (drawingOf closed settings (verticesOf (now (source .entry)))) (buffers (now (vertices .entry)) (now (flags .entry)) (now (indexes .entry))) ⌝ }
+    ensures { λ r. ⌜ finished r (buffers (now (vertices .exit)) (now (flags .exit)) (now (indexes .exit)))
+        ≡ builtOf (2 * segmentsOf closed v) (drawingOf closed settings (verticesOf (now (source .entry)))) (buffers (now (vertices .entry)) (now (flags .entry)) (now (indexes .entry))) ⌝ }
 {
     if closed {
         return draw_closed(source, v, settings, vertices, flags, indexes);
@@ -619,7 +630,8 @@ pub fn copy(
     indexes: &mut [u32],
 ) -> RawOffsetResult
     requires { ⌜ Ready v (2 * segmentsOf closed v) (now source) (buffers (now vertices) (now flags) (now indexes)) ⌝ }
-    ensures { λ r. ⌜ (r ≡ resultOf (copied closed (verticesOf (now (source .entry))))) × (buffers (now (vertices .exit)) (now (flags .exit)) (now (indexes .exit)) ≡ shown (2 * segmentsOf closed v) (copied closed (verticesOf (now (source .entry)))) (buffers (now (vertices .entry)) (now (flags .entry)) (now (indexes .entry)))) ⌝ }
+    ensures { λ r. ⌜ (r ≡ resultOf (copied closed (verticesOf (now (source .entry)))))
+        × (buffers (now (vertices .exit)) (now (flags .exit)) (now (indexes .exit)) ≡ shown (2 * segmentsOf closed v) (copied closed (verticesOf (now (source .entry)))) (buffers (now (vertices .entry)) (now (flags .entry)) (now (indexes .entry)))) ⌝ }
 {
     copy_numbers(source, 3 * v, vertices);
     let room = 2 * source::segment_count(v, closed);
