@@ -39,7 +39,7 @@ pub struct Places {
 }
 
 impl Places {
-    pub fn none() -> Places
+    fn none() -> Places
         ensures { λ r. ⌜ r ≡ noPlaces ⌝ }
     {
         Places {
@@ -98,7 +98,7 @@ fn put_flag(
 }
 
 // Stores a stroke, if it is drawn.
-pub fn store(
+fn store(
     vertices: &mut [f64],
     flags: &mut [u8],
     indexes: &mut [u32],
@@ -340,7 +340,7 @@ fn clear_indexes(indexes: &mut [u32], from: usize, count: usize)
 }
 
 // Zeros from vertex v, flag f and index i on, up to `room` places of each.
-pub fn wipe(
+fn wipe(
     vertices: &mut [f64],
     flags: &mut [u8],
     indexes: &mut [u32],
