@@ -127,11 +127,11 @@ built-ends room d old h = ap (λ (f : Finished). ending (answered (f .built)) (f
     by false = refl
 
 module _ (closed : Bool) (σ : Settings) (vs : List PlineVertex) (room : ℕ) (old : Buffers) where
-  pub repeated-ends : (k : ℕ) → firstOf (repeatTests (σ .eps) closed vs) ≡ At k → ending (Refused (Repeated k)) old ≡ placed room (distinctVerdict closed σ vs) old
+  pub repeated-ends : (k : ℕ) → firstOf (repeatTests closed vs) ≡ At k → ending (Refused (Repeated k)) old ≡ placed room (distinctVerdict closed σ vs) old
   unfolding distinctVerdict
   repeated-ends k e = unchanged (Repeated k) _ old (λ e. omega arith) ∙ ap (λ x. placed room x old) (found _ k _ _ e)
 
-  pub drawn-ends : firstOf (repeatTests (σ .eps) closed vs) ≡ Nowhere → {x : Built} {b : Buffers} → finished x b ≡ builtOf room (drawingOf closed σ vs) old
+  pub drawn-ends : firstOf (repeatTests closed vs) ≡ Nowhere → {x : Built} {b : Buffers} → finished x b ≡ builtOf room (drawingOf closed σ vs) old
       → ending (answered x) b ≡ placed room (distinctVerdict closed σ vs) old
   unfolding distinctVerdict
   drawn-ends e h = built-ends room (drawingOf closed σ vs) old h ∙ ap (λ x. placed room x old) (not-found _ _ _ e refl)

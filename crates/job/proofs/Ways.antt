@@ -125,11 +125,11 @@ module _ (j : Job) where
   roomy-way w q = two-way (w .numbers) (w .two) (unfold roomyVerdict in no _ _ _ (ap not (has-room w)) q)
 
   nonzero-way : Roomy j → (T (eq (j .settings .offset) zero) → ⊥) → {v : Verdict}
-      → v ≡ refuse Repeated at firstOf (repeatTests (j .settings .eps) (j .closed) points) else finiteVerdict drawing → v ≡ verdict
+      → v ≡ refuse Repeated at firstOf (repeatTests (j .closed) points) else finiteVerdict drawing → v ≡ verdict
   nonzero-way w n q = roomy-way w (no _ _ _ (fails _ n) (unfold distinctVerdict in q))
 
   distinct-way : Distinct j → {v : Verdict} → v ≡ finiteVerdict drawing → v ≡ verdict
-  distinct-way d q = nonzero-way (d .roomy) (d .nonzero) (not-found _ _ _ (repeated-nowhere _ _ _ .1 (d .distinct)) q)
+  distinct-way d q = nonzero-way (d .roomy) (d .nonzero) (not-found _ _ _ (repeated-nowhere _ _ .1 (d .distinct)) q)
 
   -- ---- each way leads to one outcome
 
@@ -172,7 +172,7 @@ module _ (j : Job) where
   ends (few n h) = in-threes (n .whole .threes) (numbers-way n (yes _ _ _ (lt-ltb (length points) 2 (rw (length-vertices (j .source)) h)) refl))
   ends (tight r) = in-threes (r .numbers .whole .threes) {v = refused NoRoom} (two-way (r .numbers) (r .two) (unfold roomyVerdict in yes _ _ _ (not-fails _ .1 (no-room (r .short))) refl))
   ends (copy r z) = in-threes (r .numbers .whole .threes) (roomy-way r (yes _ _ _ (passes _ .1 z) refl))
-  ends (repeated k r) = in-threes (r .roomy .numbers .whole .threes) (nonzero-way (r .roomy) (r .nonzero) (found _ k _ _ (repeated-row _ _ _ k .1 (r .repeated))))
+  ends (repeated k r) = in-threes (r .roomy .numbers .whole .threes) (nonzero-way (r .roomy) (r .nonzero) (found _ k _ _ (repeated-row _ _ k .1 (r .repeated))))
   ends (endless r) = in-threes (r .distinct .roomy .numbers .whole .threes) {v = refused NotFinite} (distinct-way (r .distinct) (unfold finiteVerdict in no _ _ _ (holds→fails _ (r .held) (r .endless)) refl))
   ends (whole d f) = in-threes (d .roomy .numbers .whole .threes) {v = drawn drawing} (distinct-way d (unfold finiteVerdict in yes _ _ _ f refl))
 
@@ -187,8 +187,8 @@ module _ (j : Job) where
 
   from-nonzero : Roomy j → (T (eq (j .settings .offset) zero) → ⊥) → Way
   from-nonzero w n =
-      by-place (firstOf (repeatTests (j .settings .eps) (j .closed) points)) (λ k e. repeated k (record { roomy = w; nonzero = n; repeated = repeated-row _ _ _ k .0 e }))
-      (λ e. from-distinct (record { roomy = w; nonzero = n; distinct = repeated-nowhere _ _ _ .0 e }))
+      by-place (firstOf (repeatTests (j .closed) points)) (λ k e. repeated k (record { roomy = w; nonzero = n; repeated = repeated-row _ _ k .0 e }))
+      (λ e. from-distinct (record { roomy = w; nonzero = n; distinct = repeated-nowhere _ _ .0 e }))
 
   from-roomy : Roomy j → Way
   from-roomy w =

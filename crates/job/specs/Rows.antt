@@ -62,7 +62,7 @@ pub record Roomy (j : Job) : Type 0 where
 pub record Distinct (j : Job) : Type 0 where
   pub roomy : Roomy j
   pub nonzero : T (eq (j .settings .offset) zero) → ⊥
-  pub distinct : (k : ℕ) → RepeatedRow (verticesOf (j .source)) (j .closed) (j .settings .eps) k → ⊥
+  pub distinct : (k : ℕ) → RepeatedRow (verticesOf (j .source)) (j .closed) k → ⊥
 
 -- ---- the rows
 
@@ -91,7 +91,7 @@ pub record Row4 (j : Job) : Type 0 where
 pub record Row5 (j : Job) (k : ℕ) : Type 0 where
   pub roomy : Roomy j
   pub nonzero : T (eq (j .settings .offset) zero) → ⊥
-  pub repeated : RepeatedRow (verticesOf (j .source)) (j .closed) (j .settings .eps) k
+  pub repeated : RepeatedRow (verticesOf (j .source)) (j .closed) k
 
 -- a NaN or an infinity
 pub data Endless (x : Float) : Type 0 where

@@ -42,7 +42,7 @@ finiteVerdict d = when allFinite (d .vertices) give drawn d else refused NotFini
 
 -- from No. 5 on
 unfoldable pub distinctVerdict : Bool → Settings → List PlineVertex → Verdict
-distinctVerdict closed σ vs = refuse Repeated at firstOf (repeatTests (σ .eps) closed vs) else finiteVerdict (drawingOf closed σ vs)
+distinctVerdict closed σ vs = refuse Repeated at firstOf (repeatTests closed vs) else finiteVerdict (drawingOf closed σ vs)
 
 -- from No. 4 on, which is given where the room does not fit; an offset of zero copies the source
 unfoldable pub roomyVerdict : Bool → Bool → Settings → List PlineVertex → Verdict

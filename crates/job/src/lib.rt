@@ -133,7 +133,7 @@ fn offset_nonzero(
     ensures { λ r. ⌜ ending r (buffers (now (vertices .exit)) (now (flags .exit)) (now (indexes .exit)))
         ≡ placed (roomFor closed v) (distinctVerdict closed settings (verticesOf (now (source .entry)))) (buffers (now (vertices .entry)) (now (flags .entry)) (now (indexes .entry))) ⌝ }
 {
-    let repeated = refusals::first_repeated(source, v, closed, settings.eps);
+    let repeated = refusals::first_repeated(source, v, closed);
     if let Place::At(k) = repeated {
         return RawOffsetAnswer::Refused(Refusal::Repeated(k));
     }

@@ -10,8 +10,8 @@ pub reach-nearest : reach ≡ round binary64 false (10 ^ 6) 1
 unfolding ofBits round
 reach-nearest = refl
 
--- 1000
-pub bulge-nearest : bulgeLimit ≡ round binary64 false (10 ^ 3) 1
+-- 1,000,000,000
+pub bulge-nearest : bulgeLimit ≡ round binary64 false (10 ^ 9) 1
 unfolding ofBits round
 bulge-nearest = refl
 

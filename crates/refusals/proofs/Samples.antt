@@ -3,10 +3,8 @@ use mathlib.Core.Path.{_≡_, refl}
 use mathlib.Core.List.{List, [], _∷_, map}
 use mathlib.Core.Bool.{Bool, true, false}
 use Prim.Native.Nat.{ℕ}
-use lib.Ieee.{Float, binary64, ofBits, neg, add, sub, lt, le, eq}
+use lib.Ieee.{Float, binary64, ofBits, neg, le, eq}
 use Rattle.floats.specs.Choice.{when_give_else_, _and_}
-use Rattle.floats.specs.Size.{absOf, within}
-use Rattle.vectors.specs.Plane.{near}
 use Rattle.segments.specs.declared.PlineVertex.{PlineVertex}
 use Rattle.refusals.specs.declared.Place.{Place}
 use Rattle.refusals.specs.declared.Place.the-variants.{Nowhere, At}
@@ -15,7 +13,7 @@ use Rattle.refusals.specs.Limits.{inside, goodVertex, goodOffset, goodEp
 
 -- all that the rows look through
 unfoldable pub opened : Unit {0}
-unfolding when_give_else_ _and_ absOf within near verticesOf segmentsOf around inside goodVertex goodOffset goodEps numberTests repeats neighbourTests repeatTests firstFrom ofBits neg add sub lt le eq
+unfolding when_give_else_ _and_ verticesOf segmentsOf around inside goodVertex goodOffset goodEps numberTests repeats neighbourTests repeatTests firstFrom ofBits neg le eq
 opened = tt
 
 abbrev pub number : ℕ → Float
@@ -45,7 +43,7 @@ aroundReach =
 
 abbrev pub aroundBulge : List ℕ
 aroundBulge =
-    0x408f_4000_0000_0000 ∷ 0x408f_4000_0000_0001 ∷ 0xc08f_4000_0000_0000 ∷ 0xc08f_4000_0000_0001 ∷
+    0x41cd_cd65_0000_0000 ∷ 0x41cd_cd65_0000_0001 ∷ 0xc1cd_cd65_0000_0000 ∷ 0xc1cd_cd65_0000_0001 ∷
     0x7ff8_0000_0000_0000 ∷ 0x7ff0_0000_0000_0000 ∷ 0xfff0_0000_0000_0000 ∷ 0x8000_0000_0000_0000 ∷ []
 
 abbrev pub aroundEps : List ℕ
@@ -77,7 +75,7 @@ pub eps-samples : map withEps aroundEps ≡ true ∷ false ∷ true ∷ false �
 unfolding opened
 eps-samples = refl
 
--- ---- places. ε is 0.01 throughout; a vertex is its x, y and bulge.
+-- ---- places. A vertex is its x, y and bulge.
 
 abbrev pub nought : ℕ
 nought = 0
@@ -104,7 +102,7 @@ abbrev pub badNumber : List ℕ → ℕ → ℕ → Place
 badNumber ns offset e = firstOf (numberTests (source ns) (record { offset = number offset; eps = number e }))
 
 abbrev pub repeated : Bool → List ℕ → Place
-repeated closed ns = firstOf (repeatTests (number ε) closed (source ns))
+repeated closed ns = firstOf (repeatTests closed (source ns))
 
 abbrev pub line : List ℕ
 line = nought ∷ nought ∷ nought ∷ one ∷ nought ∷ nought ∷ []
@@ -124,12 +122,24 @@ doubled = nought ∷ nought ∷ nought ∷ one ∷ nought ∷ nought ∷ one ∷
 abbrev pub shut : List ℕ
 shut = nought ∷ nought ∷ nought ∷ one ∷ nought ∷ nought ∷ nought ∷ nought ∷ nought ∷ []
 
-abbrev pub level : List ℕ
-level = nought ∷ nought ∷ nought ∷ ε ∷ nought ∷ nought ∷ ε ∷ one ∷ nought ∷ []
+-- the least double above zero, which no tolerance tells from it
+abbrev pub least : ℕ
+least = 1
 
--- the earlier of two neighbours; last to first only where closed, at v − 1; a distance of just ε does not count, nor nearness in x or in y alone
+abbrev pub level : List ℕ
+level = nought ∷ nought ∷ nought ∷ least ∷ nought ∷ nought ∷ least ∷ one ∷ nought ∷ []
+
+abbrev pub minusNought : ℕ
+minusNought = 0x8000_0000_0000_0000
+
+abbrev pub signed : List ℕ
+signed = nought ∷ minusNought ∷ nought ∷ minusNought ∷ nought ∷ one ∷ two ∷ nought ∷ nought ∷ []
+
+-- the earlier of two neighbours; last to first only where closed, at v − 1; neither the least difference in one number counts, nor equality in x or in y alone;
+-- zeros of either sign, whatever the bulges; no vertex, and one
 pub repeated-samples :
-    repeated false doubled ∷ repeated true doubled ∷ repeated false shut ∷ repeated true shut ∷ repeated false level ∷ repeated true level ∷ repeated true [] ∷ []
-    ≡ At 1 ∷ At 1 ∷ Nowhere ∷ At 2 ∷ Nowhere ∷ Nowhere ∷ Nowhere ∷ []
+    repeated false doubled ∷ repeated true doubled ∷ repeated false shut ∷ repeated true shut ∷ repeated false level ∷ repeated true level ∷
+    repeated false signed ∷ repeated true [] ∷ repeated false (one ∷ one ∷ one ∷ []) ∷ []
+    ≡ At 1 ∷ At 1 ∷ Nowhere ∷ At 2 ∷ Nowhere ∷ Nowhere ∷ At 0 ∷ Nowhere ∷ Nowhere ∷ []
 unfolding opened
 repeated-samples = refl

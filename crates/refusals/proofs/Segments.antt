@@ -37,20 +37,20 @@ module _ (s : List Float) (v : ℕ) (long : 3 * v ≡ length s) (two : 2 ≤ v) 
       by-test (ltb (k + 1) v) (λ (t : ltb (k + 1) v ≡ true). onward closed k (ltb-true (k + 1) v t))
       (λ (t : ltb (k + 1) v ≡ false). back closed k h (ltb-false (k + 1) v t))
 
-  pub segment-test : (ε : Float) (closed : Bool) (k : ℕ) → k < segmentsOf closed v → getD (repeatTests ε closed (verticesOf s)) k false ≡ repeats ε (vertexOf s k) (vertexOf s (nextOf v k))
-  segment-test ε closed k h = joined-test ε (verticesOf s) closed (segment-joins closed k h)
+  pub segment-test : (closed : Bool) (k : ℕ) → k < segmentsOf closed v → getD (repeatTests closed (verticesOf s)) k false ≡ repeats (vertexOf s k) (vertexOf s (nextOf v k))
+  segment-test closed k h = joined-test (verticesOf s) closed (segment-joins closed k h)
 
-  pub neighbour-test : (ε : Float) (closed : Bool) (k : ℕ) → k + 1 < v → getD (repeatTests ε closed (verticesOf s)) k false ≡ repeats ε (vertexOf s k) (vertexOf s (k + 1))
-  neighbour-test ε closed k h = joined-test ε (verticesOf s) closed (next (at k (omega arith)) (at (k + 1) h))
+  pub neighbour-test : (closed : Bool) (k : ℕ) → k + 1 < v → getD (repeatTests closed (verticesOf s)) k false ≡ repeats (vertexOf s k) (vertexOf s (k + 1))
+  neighbour-test closed k h = joined-test (verticesOf s) closed (next (at k (omega arith)) (at (k + 1) h))
 
-  pub segment-tests : (ε : Float) (closed : Bool) → length (repeatTests ε closed (verticesOf s)) ≡ segmentsOf closed v
+  pub segment-tests : (closed : Bool) → length (repeatTests closed (verticesOf s)) ≡ segmentsOf closed v
   unfolding repeatTests
-  segment-tests ε true =
+  segment-tests true =
       let n = count-vertices s v long in
-      rw (neighbour-length ε (around true (verticesOf s)), closed-length (verticesOf s) (omega arith), segments-closed v two) (omega arith)
-  segment-tests ε false =
+      rw (neighbour-length (around true (verticesOf s)), closed-length (verticesOf s) (omega arith), segments-closed v two) (omega arith)
+  segment-tests false =
       unfold around when_give_else_ in
-      rw (neighbour-length ε (verticesOf s), count-vertices s v long, segments-open v two)
+      rw (neighbour-length (verticesOf s), count-vertices s v long, segments-open v two)
 
-  pub no-more-segments : (ε : Float) (closed : Bool) (k : ℕ) → segmentsOf closed v ≤ k → length (repeatTests ε closed (verticesOf s)) ≤ k
-  no-more-segments ε closed k h = rw (segment-tests ε closed) h
+  pub no-more-segments : (closed : Bool) (k : ℕ) → segmentsOf closed v ≤ k → length (repeatTests closed (verticesOf s)) ≤ k
+  no-more-segments closed k h = rw (segment-tests closed) h

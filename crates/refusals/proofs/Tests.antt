@@ -7,7 +7,6 @@ use native.Mathlib.Numerals.{add-one}
 use native.Mathlib.Omega.{arith}
 use lib.ListN.{length, take, getD, length-append, List·getD-append}
 use lib.Seq.{getD-append-seam}
-use lib.Ieee.{Float}
 use Rattle.floats.specs.Choice.{when_give_else_}
 use Rattle.segments.specs.declared.PlineVertex.{PlineVertex}
 use Rattle.segments.specs.declared.Settings.{Settings}
@@ -49,21 +48,20 @@ module _ (σ : Settings) where
   number-eps [] = refl
   number-eps (v ∷ vs) = rw add-one (rw add-one at (number-eps vs))
 
-module _ (ε : Float) where
-  pub neighbour-length : (vs : List PlineVertex) → length (neighbourTests ε vs) ≡ length vs - 1
-  unfolding neighbourTests
-  neighbour-length [] = refl
-  neighbour-length (a ∷ []) = refl
-  neighbour-length (a ∷ b ∷ vs) = rw (neighbour-length (b ∷ vs)) (omega arith)
+pub neighbour-length : (vs : List PlineVertex) → length (neighbourTests vs) ≡ length vs - 1
+unfolding neighbourTests
+neighbour-length [] = refl
+neighbour-length (a ∷ []) = refl
+neighbour-length (a ∷ b ∷ vs) = rw (neighbour-length (b ∷ vs)) (omega arith)
 
-  pub neighbour-at : (vs : List PlineVertex) (k : ℕ) (c d : PlineVertex) → k + 1 < length vs → getD (neighbourTests ε vs) k false ≡ repeats ε (getD vs k c) (getD vs (k + 1) d)
-  unfolding neighbourTests
-  neighbour-at [] k c d h = absurd (omega arith)
-  neighbour-at (a ∷ []) k c d h = absurd (omega arith)
-  neighbour-at (a ∷ b ∷ vs) zero c d h = refl
-  neighbour-at (a ∷ b ∷ vs) (suc k) c d h =
-      let e : suc k + 1 ≡ suc (k + 1) = omega arith in
-      rw e (neighbour-at (b ∷ vs) k c d (omega arith))
+pub neighbour-at : (vs : List PlineVertex) (k : ℕ) (c d : PlineVertex) → k + 1 < length vs → getD (neighbourTests vs) k false ≡ repeats (getD vs k c) (getD vs (k + 1) d)
+unfolding neighbourTests
+neighbour-at [] k c d h = absurd (omega arith)
+neighbour-at (a ∷ []) k c d h = absurd (omega arith)
+neighbour-at (a ∷ b ∷ vs) zero c d h = refl
+neighbour-at (a ∷ b ∷ vs) (suc k) c d h =
+    let e : suc k + 1 ≡ suc (k + 1) = omega arith in
+    rw e (neighbour-at (b ∷ vs) k c d (omega arith))
 
 -- ---- a source's vertices in the order of its segments
 

@@ -12,5 +12,5 @@ abbrev pub GoodBefore : List Float → ℕ → Type 0
 GoodBefore s n = (k : ℕ) → k < n → goodVertex (vertexOf s k) ≡ true
 
 -- none of the n first pairs of neighbours repeats
-abbrev pub ApartBefore : Float → List Float → ℕ → Type 0
-ApartBefore ε s n = (k : ℕ) → k < n → repeats ε (vertexOf s k) (vertexOf s (k + 1)) ≡ false
+abbrev pub ApartBefore : List Float → ℕ → Type 0
+ApartBefore s n = (k : ℕ) → k < n → repeats (vertexOf s k) (vertexOf s (k + 1)) ≡ false

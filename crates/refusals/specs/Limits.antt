@@ -1,13 +1,11 @@
--- What makes a source's numbers bad, and which of its vertices repeat (01 §1, Nos. 3 and 5). Definitions only.
+-- What makes a source's numbers bad, and which of its vertices repeat (01 §1, Nos. 3 and 5, as 02's 2026-02 has them). Definitions only.
 use Prim.Native.Nat.{ℕ, suc}
 use mathlib.Core.List.{List, [], _∷_, _++_, map}
 use mathlib.Core.Bool.{Bool, true, false, not}
-use lib.Ieee.{Float, binary64, neg, le, ofBits}
+use lib.Ieee.{Float, binary64, neg, le, eq, ofBits}
 use Rattle.floats.specs.Choice.{_and_}
-use Rattle.vectors.specs.Plane.{near}
 use Rattle.segments.specs.declared.PlineVertex.{PlineVertex}
 use Rattle.segments.specs.declared.Settings.{Settings}
-use Rattle.segments.specs.Vertex.{posOf}
 use Rattle.refusals.specs.declared.Place.{Place}
 use Rattle.refusals.specs.declared.Place.the-variants.{Nowhere, At}
 use Rattle.source.specs.Source.{around}
@@ -16,9 +14,9 @@ use Rattle.source.specs.Source.{around}
 abbrev pub reach : Float
 reach = ofBits binary64 0x412e_8480_0000_0000
 
--- 1000: for a bulge, on either side
+-- 1,000,000,000: for a bulge, on either side
 abbrev pub bulgeLimit : Float
-bulgeLimit = ofBits binary64 0x408f_4000_0000_0000
+bulgeLimit = ofBits binary64 0x41cd_cd65_0000_0000
 
 -- 1e-9 and 0.01: for ε
 abbrev pub leastEps : Float
@@ -44,19 +42,19 @@ goodEps ε = inside leastEps mostEps ε
 unfoldable pub numberTests : List PlineVertex → Settings → List Bool
 numberTests vs σ = map (λ v. not (goodVertex v)) vs ++ not (goodOffset (σ .offset)) ∷ not (goodEps (σ .eps)) ∷ []
 
--- two vertices differ by less than ε in x and in y. (The one definition of "repeated".)
-unfoldable pub repeats : Float → PlineVertex → PlineVertex → Bool
-repeats ε a b = near (posOf a) (posOf b) ε
+-- two vertices are equal in x and in y, by value: −0 is +0. (The one definition of "repeated".)
+unfoldable pub repeats : PlineVertex → PlineVertex → Bool
+repeats a b = eq (a .x) (b .x) and eq (a .y) (b .y)
 
 -- the same of each vertex with the next
-unfoldable pub neighbourTests : Float → List PlineVertex → List Bool
-neighbourTests ε [] = []
-neighbourTests ε (a ∷ []) = []
-neighbourTests ε (a ∷ b ∷ vs) = repeats ε a b ∷ neighbourTests ε (b ∷ vs)
+unfoldable pub neighbourTests : List PlineVertex → List Bool
+neighbourTests [] = []
+neighbourTests (a ∷ []) = []
+neighbourTests (a ∷ b ∷ vs) = repeats a b ∷ neighbourTests (b ∷ vs)
 
 -- the tests of No. 5 in their order: the earlier vertex of a pair is its place, so that last to first has the place v − 1
-unfoldable pub repeatTests : Float → Bool → List PlineVertex → List Bool
-repeatTests ε closed vs = neighbourTests ε (around closed vs)
+unfoldable pub repeatTests : Bool → List PlineVertex → List Bool
+repeatTests closed vs = neighbourTests (around closed vs)
 
 -- the place of the first test that holds, the first test having the place k
 unfoldable pub firstFrom : ℕ → List Bool → Place

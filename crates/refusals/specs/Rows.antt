@@ -1,13 +1,11 @@
--- Nos. 3 and 5 of 01 §1 as propositions over the vertices, with no search in them. Definitions only.
+-- Nos. 3 and 5 of 01 §1, as 02's 2026-02 has them, as propositions over the vertices, with no search in them. Definitions only.
 use mathlib.Core.Path.{_≡_}
 use mathlib.Core.List.{List}
 use mathlib.Core.Bool.{Bool, true}
 use Prim.Native.Nat.{ℕ, _+_, _<_}
 use lib.Dec.{T}
 use lib.ListN.{length, getD}
-use lib.Ieee.{Float, nan, inf, neg, lt}
-use Rattle.floats.specs.Size.{absOf}
-use Rattle.floats.specs.Binary64.{_⊖_}
+use lib.Ieee.{Float, nan, inf, neg, lt, eq}
 use Rattle.segments.specs.declared.PlineVertex.{PlineVertex}
 use Rattle.segments.specs.declared.Settings.{Settings}
 use Rattle.refusals.specs.Limits.{reach, bulgeLimit, leastEps, mostEps}
@@ -39,10 +37,10 @@ pub data NumberRow (vs : List PlineVertex) (σ : Settings) : ℕ → Type 0 wher
   by-offset : NoneBadBefore vs (length vs) → Bad (neg reach) reach (σ .offset) → NumberRow vs σ (length vs)
   by-eps : NoneBadBefore vs (length vs) → (Bad (neg reach) reach (σ .offset) → ⊥) → Bad leastEps mostEps (σ .eps) → NumberRow vs σ (length vs + 1)
 
--- two vertices differ by less than ε in x and in y
-pub record Repeats (ε : Float) (a b : PlineVertex) : Type 0 where
-  pub x : T (lt (absOf (a .x ⊖ b .x)) ε)
-  pub y : T (lt (absOf (a .y ⊖ b .y)) ε)
+-- two vertices are equal in x and in y
+pub record Repeats (a b : PlineVertex) : Type 0 where
+  pub x : T (eq (a .x) (b .x))
+  pub y : T (eq (a .y) (b .y))
 
 -- vertices a at k and b are joined by a segment: b follows a, or the source is closed, a is its last vertex and b its first
 pub data Joined (closed : Bool) (vs : List PlineVertex) (k : ℕ) (a b : PlineVertex) : Type 0 where
@@ -50,9 +48,9 @@ pub data Joined (closed : Bool) (vs : List PlineVertex) (k : ℕ) (a b : PlineVe
   closing : closed ≡ true → k + 1 ≡ length vs → VertexIs vs k a → VertexIs vs 0 b → Joined closed vs k a b
 
 -- No. 5 at place k: the first joined pair that repeats, by its earlier vertex
-pub record RepeatedRow (vs : List PlineVertex) (closed : Bool) (ε : Float) (k : ℕ) : Type 0 where
+pub record RepeatedRow (vs : List PlineVertex) (closed : Bool) (k : ℕ) : Type 0 where
   pub a : PlineVertex
   pub b : PlineVertex
   pub joined : Joined closed vs k a b
-  pub repeats : Repeats ε a b
-  pub first : (j : ℕ) (p q : PlineVertex) → j < k → Joined closed vs j p q → Repeats ε p q → ⊥
+  pub repeats : Repeats a b
+  pub first : (j : ℕ) (p q : PlineVertex) → j < k → Joined closed vs j p q → Repeats p q → ⊥

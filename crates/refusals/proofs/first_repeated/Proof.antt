@@ -12,22 +12,22 @@ use Rattle.refusals.proofs.first_repeated.Statement.{statement}
 use Rattle.refusals.proofs.first_repeated.Tie as tie
 
 abbrev Inv-loop : tie.InvT-loop
-Inv-loop source v closed eps n k₀ k = (n ≡ segmentsOf closed v) × (n ≤ v) × (rest k (repeatTests eps closed (verticesOf source)) ≡ firstOf (repeatTests eps closed (verticesOf source)))
+Inv-loop source v closed n k₀ k = (n ≡ segmentsOf closed v) × (n ≤ v) × (rest k (repeatTests closed (verticesOf source)) ≡ firstOf (repeatTests closed (verticesOf source)))
 
 abbrev μ-loop : tie.MeasureT-loop
-μ-loop source v closed eps n k₀ k = n - k
+μ-loop source v closed n k₀ k = n - k
 
 loop-holds : tie.Need-loop-holds Inv-loop μ-loop
 loop-holds c =
     let counted = c .before .segment-count .ensures in
     let start = c .before .before .before in
     let two = start .pre .0 in
-    let close = c .first-close .ensures in
-    (counted, rw counted (segments-most _ _), first-skip _ _ (λ k h. neighbour-test _ _ (start .pre .1 .1) two _ _ k (omega arith) ∙ close .1 k h))
+    let close = c .first-doubtful-pair .ensures in
+    (counted, rw counted (segments-most _ _), first-skip _ _ (λ k h. neighbour-test _ _ (start .pre .1 .1) two _ k (omega arith) ∙ close .1 k h))
 
 returns : tie.Need-returns Inv-loop μ-loop
 returns c = first-found _ _ (segment-test _ _ (c .before .before .before .before .before .before .before .before .before .before .pre .1 .1)
-    (c .before .before .before .before .before .before .before .before .before .before .pre .0) _ _ _
+    (c .before .before .before .before .before .before .before .before .before .before .pre .0) _ _
     (rw (c .before .before .before .before .before .before .loop .inv .0) at (c .before .before .before .before .before .loop-test .taken)) ∙ (cc)) ∙ c .before .before .before .before .before .before .loop .inv .2
 
 loop-again : tie.Need-loop-again Inv-loop μ-loop
@@ -36,12 +36,12 @@ loop-again c = (
   search needs,
   first-step _ _
       (segment-test _ _ (c .before .before .before .before .before .before .before .before .before .before .pre .1 .1)
-      (c .before .before .before .before .before .before .before .before .before .before .pre .0) _ _ _
+      (c .before .before .before .before .before .before .before .before .before .before .pre .0) _ _
       (rw (c .before .before .before .before .before .before .loop .inv .0) at (c .before .before .before .before .before .loop-test .taken)) ∙ (cc)) ∙ c .before .before .before .before .before .before .loop .inv .2,
 )
 
 returns-2 : tie.Need-returns-2 Inv-loop μ-loop
-returns-2 c = first-end _ _ (no-more-segments _ _ (c .before .before .before .before .before .pre .1 .1) (c .before .before .before .before .before .pre .0) _ _ _ (rw (c .before .loop .inv .0) at (c .loop-test .left))) ∙ c .before .loop .inv .2
+returns-2 c = first-end _ _ (no-more-segments _ _ (c .before .before .before .before .before .pre .1 .1) (c .before .before .before .before .before .pre .0) _ _ (rw (c .before .loop .inv .0) at (c .loop-test .left))) ∙ c .before .loop .inv .2
 
 pub first-repeated-spec : {M : Type 1} → statement M
 first-repeated-spec =
