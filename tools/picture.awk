@@ -16,7 +16,15 @@ function root(x,    k, y, i) {
 
 function abs(x) { return x < 0 ? -x : x }
 
-function distance(x1, y1, x2, y2) { return root((x2 - x1) * (x2 - x1) + (y2 - y1) * (y2 - y1)) }
+# the squares of very small numbers would be 0: those are made larger first
+function distance(x1, y1, x2, y2,    dx, dy, k) {
+    dx = x2 - x1
+    dy = y2 - y1
+    k = abs(dx) < 1e-100 && abs(dy) < 1e-100 ? 1e200 : 1
+    dx *= k
+    dy *= k
+    return root(dx * dx + dy * dy) / k
+}
 
 function straight(x1, y1, x2, y2, b) { return abs(b) < 0.00000001 || (x1 == x2 && y1 == y2) }
 
@@ -65,15 +73,21 @@ function across(x) { return left + (x - min_x) * scale }
 function down(y) { return top + (max_y - y) * scale }
 function at(x, y) { return px(across(x)) " " px(down(y)) }
 
-# stroke: a segment from the current point of a path. An arc is halved where its ends are near each other for its
-# size: they could fall on one point.
-function stroke(x1, y1, x2, y2, b,    mx, my, r) {
+# stroke: a segment from the current point of a path. An arc that goes nearly all the way round is drawn as four: its
+# ends may fall on one point, between which SVG draws nothing, and half a circle goes a pixel or two astray where its
+# radius is rounded.
+function stroke(x1, y1, x2, y2, b) {
     if (straight(x1, y1, x2, y2, b)) return " L" at(x2, y2)
-    if (abs(b) > 10) {
+    return arcs(x1, y1, x2, y2, b, abs(b) > 10 ? 2 : 0)
+}
+
+# arcs: an arc, halved so many times
+function arcs(x1, y1, x2, y2, b, times,    mx, my, r) {
+    if (times > 0) {
         mx = middle_x(x1, y1, x2, y2, b)
         my = middle_y(x1, y1, x2, y2, b)
         b = b / (1 + root(1 + b * b))
-        return stroke(x1, y1, mx, my, b) stroke(mx, my, x2, y2, b)
+        return arcs(x1, y1, mx, my, b, times - 1) arcs(mx, my, x2, y2, b, times - 1)
     }
     r = px(radius(x1, y1, x2, y2, b) * scale)
     return " A" r " " r " 0 " (abs(b) > 1 ? 1 : 0) " " (b < 0 ? 1 : 0) " " at(x2, y2)
@@ -92,9 +106,9 @@ function number_of(i,    j, mx, my, l, side) {
     j = (i + 1) % place
     l = distance(ox[i], oy[i], ox[j], oy[j])
     if (l == 0) return
-    side = (value(offset) < 0 ? -11 : 11) * pen / l
-    mx = across(middle_x(ox[i], oy[i], ox[j], oy[j], ob[i])) - (oy[j] - oy[i]) * side
-    my = down(middle_y(ox[i], oy[i], ox[j], oy[j], ob[i])) - (ox[j] - ox[i]) * side
+    side = (value(offset) < 0 ? -11 : 11) * pen
+    mx = across(middle_x(ox[i], oy[i], ox[j], oy[j], ob[i])) - (oy[j] - oy[i]) / l * side
+    my = down(middle_y(ox[i], oy[i], ox[j], oy[j], ob[i])) - (ox[j] - ox[i]) / l * side
     words(mx, my + 4 * pen, mark[i] == "!" ? " fill=\"#c62828\" font-weight=\"bold\"" : "", i)
 }
 
@@ -136,6 +150,9 @@ function take_answer(    i) {
     }
 }
 
+# a width or height by which the scale goes; by a smaller one it would be infinite
+function is_extent(d) { return d >= 1e-300 }
+
 function measure(    i) {
     grow(sx[0], sy[0])
     for (i = 0; i + 1 < v; i++) grow_segment(sx[i], sy[i], sx[i + 1], sy[i + 1], sb[i])
@@ -144,8 +161,8 @@ function measure(    i) {
         if (mark[i] != "-") grow_segment(ox[i], oy[i], ox[(i + 1) % drawn], oy[(i + 1) % drawn], ob[i])
     pen = v > 100 || drawn > 100 ? 0.5 : 1
     scale = 0
-    if (max_x > min_x) scale = 560 / pen / (max_x - min_x)
-    if (max_y > min_y && (scale == 0 || (max_y - min_y) * scale > 400 / pen)) scale = 400 / pen / (max_y - min_y)
+    if (is_extent(max_x - min_x)) scale = 560 / pen / (max_x - min_x)
+    if (is_extent(max_y - min_y) && (scale == 0 || (max_y - min_y) * scale > 400 / pen)) scale = 400 / pen / (max_y - min_y)
     drawing_width = (max_x - min_x) * scale
     drawing_height = (max_y - min_y) * scale
 }
