@@ -41,7 +41,7 @@ function bad_number(    whose, plane) {
     whose = "vertex " place " is"
     if (!within(x_of(place), -1000000, 1000000)) return out_of_range(whose, "x is", x_of(place), plane)
     if (!within(y_of(place), -1000000, 1000000)) return out_of_range(whose, "y is", y_of(place), plane)
-    return out_of_range(whose, "its bulge is", bulge_of(place), "a bulge lies in ±1000")
+    return out_of_range(whose, "its bulge is", bulge_of(place), "a bulge lies in ±1000000000")
 }
 
 function point_of(i) { return "(" decimal(x_of(i)) ", " decimal(y_of(i)) ")" }
@@ -49,9 +49,11 @@ function point_of(i) { return "(" decimal(x_of(i)) ", " decimal(y_of(i)) ")" }
 # the vertex that number 5's vertex is joined to
 function after_place() { return place + 1 < v ? place + 1 : 0 }
 
-function repeated() {
-    return "vertices " place " and " after_place() (place + 1 < v ? "" : ", the last and the first,") \
-        " are less than ε apart in x and in y: " point_of(place) " and " point_of(after_place()) ", ε is " decimal(eps)
+# the two may differ in the signs of zeros, and are told apart then
+function repeated(    other) {
+    other = after_place()
+    return "vertices " place " and " other (place + 1 < v ? "" : ", the last and the first,") " are the same point, " \
+        point_of(place) (point_of(place) == point_of(other) ? "" : " and " point_of(other)) ": leave one of them out"
 }
 
 function malformed() {
@@ -71,9 +73,19 @@ function refusal() {
     return "place " place
 }
 
+# empty(): why nothing is left. With two vertices or more, no move ended ε or more from the first point, or the source is one
+# open arc, which collapsed.
+function empty(    ends) {
+    if (v < 2) return "empty, nothing is left"
+    ends = "ended within ε (" decimal(eps) ") of where "
+    if (v == 2 && !closed && size(bulge_of(0)) >= 0.00000001)
+        return "empty, since the one arc collapsed, or " ends "it began: then take a smaller ε, down to 1e-9"
+    return "empty, since every move " ends "the first began; if more should be left, take a smaller ε, down to 1e-9"
+}
+
 # count(): what a done answer has; the first twelve invalid segments are named
 function count(    i, segments, invalid, list) {
-    if (place == 0) return "empty, nothing is left"
+    if (place == 0) return empty()
     for (i = 0; i < place; i++) {
         if (mark[i] != "-") segments++
         if (mark[i] != "!") continue
