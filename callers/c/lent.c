@@ -59,18 +59,25 @@ int main(void)
     static const double none[MOST];
     const double corner[] = {0, 0, 0, 4, 0, 0.5, 4, 1, 0, 4, 1, 0};
     const double far_off[] = {5, 0, 0.6180339887498949, -3, 4, 0, 5, 4, 0};
+    const double zeros[] = {0, 0, 0, -0.0, 0, 0, 4, 0, 0};
+    const double circle[] = {10, 5e-7, 4e7, 10, -5e-7, 0};
+    const double short_line[] = {0, 0, 0, 1e-200, 0, 0};
     union numbers bad = {.values = {0, 0, 0, 4, 0, 0}};
     const struct job jobs[] = {
         {corner, 9, false, 2, 1e-5, 8, BLIDROSK_DONE, 4},
         {corner, 9, true, -0.0, 1e-5, 8, BLIDROSK_DONE, 6},
         {corner, 3, true, 2, 1e-5, 8, BLIDROSK_DONE, 0},
+        {circle, 6, false, -1, 1e-5, 8, BLIDROSK_DONE, 2}, /* its ends are within eps: empty */
+        {circle, 6, false, -1, 1e-7, 8, BLIDROSK_DONE, 2},
         {corner, 8, false, 2, 1e-5, 8, BLIDROSK_RAGGED, 0},
         {none, MOST, false, 2, 1e-5, 8, BLIDROSK_TOO_MANY, 0},
         {corner, 9, false, 2, 1, 8, BLIDROSK_BAD_NUMBER, 0},
         {bad.values, 9, false, 2, 1e-5, 8, BLIDROSK_BAD_NUMBER, 0},
         {corner, 9, false, 2, 1e-5, 3, BLIDROSK_NO_ROOM, 0},
         {corner, 12, false, 2, 1e-5, 8, BLIDROSK_REPEATED, 0},
+        {zeros, 9, false, 2, 1e-5, 8, BLIDROSK_REPEATED, 0},
         {far_off, 9, false, 0.5000002384185791, 4.7683715820312495e-7, 8, BLIDROSK_NOT_FINITE, 4},
+        {short_line, 6, false, 1, 1e-5, 8, BLIDROSK_NOT_FINITE, 2},
     };
     int failed = 0;
     for (size_t i = 0; i < sizeof jobs / sizeof *jobs; i++) {

@@ -23,7 +23,7 @@ enum blidrosk_number {
     BLIDROSK_TOO_MANY = 2,   /* more than 4096 vertices */
     BLIDROSK_BAD_NUMBER = 3, /* a NaN, an infinity, or a number out of its range, at `place` */
     BLIDROSK_NO_ROOM = 4,    /* a buffer is too short */
-    BLIDROSK_REPEATED = 5,   /* joined vertices within eps in x and in y, the first at `place` */
+    BLIDROSK_REPEATED = 5,   /* joined vertices equal in x and in y, the earlier at `place` */
     BLIDROSK_NOT_FINITE = 6  /* the drawing came out with a NaN or an infinity */
 };
 
@@ -41,7 +41,7 @@ enum blidrosk_entry {
  *
  *   source, source_len    three numbers a vertex: x, y, bulge. A bulge is the tangent of a quarter
  *                         of the sweep to the next vertex, positive counterclockwise. x and y lie
- *                         in +-1000000, bulges in +-1000, limits included.
+ *                         in +-1000000, bulges in +-1000000000, limits included.
  *   closed                whether the last vertex is joined to the first
  *   offset                in +-1000000; positive moves to the left of the way drawn. Either zero
  *                         copies the source.
@@ -60,6 +60,21 @@ enum blidrosk_entry {
  *
  * Place. Number 3: the first bad vertex, counted from 0; with v vertices, v stands for the offset
  * and v + 1 for eps. Number 5: the earlier vertex of the first such pair; v - 1 for last to first.
+ * It is given where the offset is not zero and the two are equal by value, so that -0 equals 0;
+ * vertices nearer than eps that differ are taken.
+ *
+ * Nearly full circles. An output segment that would end less than eps from where it starts, in x
+ * and in y, is left out, without a flag. An arc that goes nearly all the way round may end so, and
+ * the circle is then missing from a drawing that is done; where the arc was all there is, the
+ * drawing is done and has 0 vertices. Choose eps below the gap that the offset leaves between the
+ * arc's ends, a tenth of it for safety. Cut d outside an arc of radius r a gap g becomes
+ * g * (r + d) / r, inside it g * (r - d) / r. With offset -1, outside:
+ *   - open (10, 5e-7, bulge 4e7) (10, -5e-7): the gap left is 1.1e-6. eps 1e-5 gives 0 vertices,
+ *     eps 1e-7 the circle.
+ *   - open (10, 4.75e-6, bulge 4210526.3) (10, -4.75e-6): the gap left is 1.045e-5. eps 1e-5 gives
+ *     the circle.
+ *   - the same closed: the joins with the closing segment leave 9.975e-6. eps 1e-5 gives 0
+ *     vertices, eps 1e-6 the circle.
  *
  * Buffers. Refusals 1 to 5 change none of the three, and neither does a source of fewer than two
  * vertices, whose answer is an empty open drawing. Otherwise the first 2n vertices, flags and
