@@ -13,6 +13,25 @@
 //! assert_eq!(drawing.flags, [0, 1, 0]);
 //! assert_eq!(drawing.indexes, [1]);
 //! ```
+//!
+//! # Nearly full circles and the tolerance
+//!
+//! An output segment that would end less than the tolerance from where it starts, in x and in y, is
+//! left out, without a flag. An arc that goes nearly all the way round may end so: the circle is
+//! then missing, and where the arc was all there is, the drawing is done and empty. Choose the
+//! tolerance below the gap that the offset leaves between the arc's ends, a tenth of it for safety.
+//! Outside a circle that gap is wider than drawn, inside narrower.
+//!
+//! ```
+//! use blidrosk::Drawing;
+//!
+//! // a circle of radius 10 with a gap of 1e-6, which 1 outside is 1.1e-6
+//! let source = [10.0, 5e-7, 4e7, 10.0, -5e-7, 0.0];
+//! let lost = Drawing::offset(&source, false, -1.0, 1e-5).expect("a good job");
+//! assert_eq!(lost.vertices, []);
+//! let circle = Drawing::offset(&source, false, -1.0, 1e-7).expect("a good job");
+//! assert_eq!(circle.vertices.len(), 3 * 2);
+//! ```
 
 mod archive;
 mod refusal;

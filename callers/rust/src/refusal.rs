@@ -14,7 +14,8 @@ pub enum Refusal {
     BadNumber(Bad),
     /// A buffer has fewer places than [`room`](crate::room) says.
     NoRoom,
-    /// This vertex and the one that it is joined to are nearer than the tolerance in x and in y.
+    /// This vertex and the one that it is joined to are equal in x and in y; −0 equals 0. The offset
+    /// is not zero.
     Repeated(usize),
     /// The drawing came out with a NaN or an infinity.
     NotFinite,
@@ -71,7 +72,7 @@ impl fmt::Display for Refusal {
             }
             Refusal::Repeated(k) => write!(
                 f,
-                "vertex {k} and the one after it are the same point within the tolerance"
+                "vertex {k} and the one after it are the same point: leave one of them out"
             ),
             Refusal::NotFinite => f.write_str("the offset drawing has a number that is not finite"),
         }
@@ -83,7 +84,7 @@ impl fmt::Display for Bad {
         match self {
             Bad::Vertex(k) => write!(
                 f,
-                "vertex {k} has a number out of range: x and y within ±1000000, bulge within ±1000"
+                "vertex {k} has a number out of range: x and y within ±1000000, bulge within ±1000000000"
             ),
             Bad::Offset => f.write_str("the offset is out of range: within ±1000000"),
             Bad::Eps => f.write_str("the tolerance is out of range: 1e-9 to 0.01"),

@@ -97,7 +97,7 @@ fn numbers_that_are_none() {
 #[test]
 fn ranges_include_their_limits() {
     for sign in [-1.0, 1.0] {
-        for (place, limit) in [(3, 1e6), (4, 1e6), (5, 1e3)] {
+        for (place, limit) in [(3, 1e6), (4, 1e6), (5, 1e9)] {
             let job = |x: f64| Drawing::offset(&with(CORNER, place, sign * x), false, 1.0, EPS);
             assert!(job(limit).is_ok());
             let refusal = Refusal::BadNumber(Bad::Vertex(1));
@@ -129,15 +129,54 @@ fn room_one_short() {
 
 #[test]
 fn joined_vertices_on_one_point() {
-    let twice = [0.0, 0.0, 0.0, 4.0, 0.0, 0.0, 4.0, 1e-6, 0.0];
+    let twice = [0.0, 0.0, 0.0, 4.0, 0.0, 0.0, 4.0, 0.0, 0.0];
     assert_refused(&twice, false, 1.0, EPS, Refusal::Repeated(1));
-    let back = [0.0, 0.0, 0.0, 4.0, 0.0, 0.0, 1e-6, 0.0, 0.0];
+    let back = [0.0, 0.0, 0.0, 4.0, 0.0, 0.0, 0.0, 0.0, 0.0];
     assert_refused(&back, true, 1.0, EPS, Refusal::Repeated(2));
     assert!(
         Drawing::offset(&back, false, 1.0, EPS).is_ok(),
         "open: not joined"
     );
     assert!(Drawing::offset(&twice, false, 0.0, EPS).is_ok(), "a copy");
+}
+
+#[test]
+fn zeros_of_either_sign_are_one_point() {
+    for (x, y) in [(-0.0, 0.0), (0.0, -0.0), (-0.0, -0.0)] {
+        let pair = [0.0, 0.0, 0.0, x, y, 0.0, 4.0, 0.0, 0.0];
+        assert_refused(&pair, false, 1.0, EPS, Refusal::Repeated(0));
+        let back = [0.0, 0.0, 0.0, 4.0, 0.0, 0.0, x, y, 0.0];
+        assert_refused(&back, true, 1.0, EPS, Refusal::Repeated(2));
+    }
+}
+
+#[test]
+fn vertices_that_differ_are_no_one_point() {
+    let step = 4.0_f64.next_up() - 4.0;
+    for apart in [9e-6, 1e-6, step] {
+        for (x, y) in [(4.0 + apart, 0.0), (4.0, apart), (4.0 + apart, apart)] {
+            let pair = [0.0, 0.0, 0.0, 4.0, 0.0, 0.0, x, y, 0.0];
+            assert!(Drawing::offset(&pair, false, 1.0, EPS).is_ok());
+            let ring = [4.0, 0.0, 0.0, 8.0, 4.0, 0.0, x, y, 0.0];
+            assert!(Drawing::offset(&ring, true, 1.0, EPS).is_ok());
+        }
+    }
+}
+
+#[test]
+fn a_segment_whose_length_is_zero_by_its_square() {
+    let line = [0.0, 0.0, 0.0, 1e-200, 0.0, 0.0];
+    assert_eq!(
+        Drawing::offset(&line, false, 1.0, EPS),
+        Err(Refusal::NotFinite)
+    );
+    let arc = [0.0, 0.0, 1.0, 1e-200, 0.0, 0.0];
+    let inside = Drawing::offset(&arc, false, 1.0, EPS).expect("collapsed");
+    assert_eq!(inside.vertices, []);
+    assert_eq!(
+        Drawing::offset(&arc, false, -1.0, EPS),
+        Err(Refusal::NotFinite)
+    );
 }
 
 #[test]
@@ -187,4 +226,8 @@ fn words_for_the_one_who_drew_it() {
     assert!(said(&far, EPS).starts_with("vertex 2 has a number out of range"));
     assert!(said(&CORNER, 1.0).starts_with("the tolerance is out of range"));
     assert!(said(&CORNER[..4], EPS).contains("left over"));
+    let bulge = with(CORNER, 5, -1e9_f64.next_up());
+    assert!(said(&bulge, EPS).ends_with("bulge within ±1000000000"));
+    let twice = with(CORNER, 7, 0.0);
+    assert!(said(&twice, EPS).starts_with("vertex 1 and the one after it are the same point"));
 }

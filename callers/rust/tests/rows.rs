@@ -99,3 +99,55 @@ fn fewer_than_two_vertices_draw_nothing() {
         assert_drawn(&offset(&[1.0, 2.0, 0.5], closed, 1.0), false, &[], &[]);
     }
 }
+
+#[test]
+fn a_nearly_full_circle_moves_outside() {
+    let arc = [10.0, 4.75e-6, 4210526.3, 10.0, -4.75e-6, 0.0];
+    let (x, y) = (10.999999999999886, 5.225000001781224e-6);
+    let circle = [x, y, 4210526.299922738, x, -y, 0.0];
+    assert_drawn(&offset(&arc, false, -1.0), false, &circle, &[]);
+}
+
+#[test]
+fn a_gap_below_the_tolerance_leaves_nothing() {
+    let narrow = [10.0, 5e-7, 4e7, 10.0, -5e-7, 0.0];
+    assert_drawn(&offset(&narrow, false, -1.0), false, &[], &[]);
+    let wider = [10.0, 4.75e-6, 4210526.3, 10.0, -4.75e-6, 0.0];
+    assert_drawn(&offset(&wider, true, -1.0), false, &[], &[]);
+}
+
+#[test]
+fn a_tolerance_below_the_gap_leaves_the_circle() {
+    let narrow = [10.0, 5e-7, 4e7, 10.0, -5e-7, 0.0];
+    let open = Drawing::offset(&narrow, false, -1.0, 1e-7).expect("a good job");
+    assert_eq!((open.vertices.len(), open.closed), (3 * 2, false));
+    let wider = [10.0, 4.75e-6, 4210526.3, 10.0, -4.75e-6, 0.0];
+    let closed = Drawing::offset(&wider, true, -1.0, 1e-6).expect("a good job");
+    assert_eq!((closed.vertices.len(), closed.closed), (3 * 2, true));
+    assert!(closed.vertices[2] > 4e6, "a circle");
+}
+
+#[test]
+fn a_circle_is_left_out_of_a_longer_drawing() {
+    let there_and_back = [
+        35.0, 5e-7, 0.0, 10.0, 5e-7, 4e7, 10.0, -5e-7, 0.0, 35.0, -5e-7, 0.0,
+    ];
+    let without = offset(&there_and_back, false, 1.0);
+    assert_eq!((without.vertices.len(), without.indexes.len()), (3 * 5, 0));
+    let with = Drawing::offset(&there_and_back, false, 1.0, 1e-8).expect("a good job");
+    assert_eq!((with.vertices.len(), with.indexes.len()), (3 * 6, 0));
+    assert!(with.vertices[8] > 3e7, "a circle");
+}
+
+#[test]
+fn both_joins_of_a_segment_within_the_tolerance_are_gaps() {
+    let step = straight(&[(0.0, 0.0), (4.0, 0.0), (4.0, -1e-6), (8.0, -1e-6)]);
+    let bridged = straight(&[
+        (0.0, 1.0),
+        (4.0, 1.0),
+        (5.0, 0.0),
+        (4.0, 0.999999),
+        (8.0, 0.999999),
+    ]);
+    assert_drawn(&offset(&step, false, 1.0), false, &bridged, &[1, 2]);
+}
