@@ -19,8 +19,9 @@
 //! An output segment that would end less than the tolerance from where it starts, in x and in y, is
 //! left out, without a flag. An arc that goes nearly all the way round may end so: the circle is
 //! then missing, and where the arc was all there is, the drawing is done and empty. Choose the
-//! tolerance below the gap that the offset leaves between the arc's ends, a tenth of it for safety.
-//! Outside a circle that gap is wider than drawn, inside narrower.
+//! tolerance below the gap that the offset leaves between the arc's ends, in x or in y, whichever is
+//! wider; a tenth of it leaves a margin. Outside a circle that gap is wider than drawn, inside
+//! narrower.
 //!
 //! ```
 //! use blidrosk::Drawing;
