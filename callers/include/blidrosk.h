@@ -66,9 +66,11 @@ enum blidrosk_entry {
  * Nearly full circles. An output segment that would end less than eps from where it starts, in x
  * and in y, is left out, without a flag. An arc that goes nearly all the way round may end so, and
  * the circle is then missing from a drawing that is done; where the arc was all there is, the
- * drawing is done and has 0 vertices. Choose eps below the gap that the offset leaves between the
- * arc's ends, in x or in y, whichever is wider; a tenth of it leaves a margin. Cut d outside an arc
- * of radius r, a gap g becomes g * (r + d) / r; inside it, g * (r - d) / r. With offset -1:
+ * drawing is done and has 0 vertices. So draw such a circle open, and choose eps below the gap that
+ * the offset leaves between the arc's ends, in x or in y, whichever is wider; half of it leaves a
+ * margin. Cut d outside an arc of radius r, a gap g becomes g * (r + d) / r; inside it,
+ * g * (r - d) / r. Closed, the short closing segment has joins of its own: cut inside, they are
+ * often flagged, and the circle may be missing with any eps. With offset -1:
  *   - open (10, 5e-7, bulge 4e7) (10, -5e-7): the gap left is 1.1e-6. eps 1e-5 gives 0 vertices,
  *     eps 1e-7 the circle.
  *   - open (10, 4.75e-6, bulge 4210526.3) (10, -4.75e-6): the gap left is 1.045e-5. eps 1e-5 gives

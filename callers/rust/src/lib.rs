@@ -18,10 +18,11 @@
 //!
 //! An output segment that would end less than the tolerance from where it starts, in x and in y, is
 //! left out, without a flag. An arc that goes nearly all the way round may end so: the circle is
-//! then missing, and where the arc was all there is, the drawing is done and empty. Choose the
-//! tolerance below the gap that the offset leaves between the arc's ends, in x or in y, whichever is
-//! wider; a tenth of it leaves a margin. Outside a circle that gap is wider than drawn, inside
-//! narrower.
+//! then missing, and where the arc was all there is, the drawing is done and empty. So draw such a
+//! circle open, and choose the tolerance below the gap that the offset leaves between the arc's
+//! ends, in x or in y, whichever is wider; half of it leaves a margin. Outside a circle that gap is
+//! wider than drawn, inside narrower. Closed, the short closing segment has joins of its own: cut
+//! inside, they are often flagged, and the circle may be missing with any tolerance.
 //!
 //! ```
 //! use blidrosk::Drawing;
