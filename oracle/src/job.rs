@@ -1,4 +1,5 @@
-//! The job of 01 section 1: refusals in their order, 000, and the three lent buffers.
+//! The job of 01 section 1, as 02's 2026-02 amends it: refusals in their order, 000, and the three
+//! lent buffers.
 
 use crate::polyline::internal::raw_pline_offset::{RawOffsetResult, create_raw_offset};
 use crate::polyline::{PlineSource, PlineVertex, Polyline};
@@ -33,7 +34,7 @@ pub fn job(job: &Job, mut lent: Lent) -> Answer {
         return refused(4, 0);
     }
     if job.offset != 0.0
-        && let Some(place) = repeated(&pline, job.eps)
+        && let Some(place) = repeated(&pline)
     {
         return refused(5, place);
     }
@@ -76,10 +77,11 @@ impl Lent<'_> {
     }
 }
 
-/// 01 §1 No. 3: the first vertex, then the offset, then ε. A NaN lies in no range.
+/// 01 §1 No. 3, with 2026-02's bulges: the first vertex, then the offset, then ε. A NaN lies in no
+/// range.
 fn bad_number(job: &Job) -> Option<usize> {
     let in_plane = |x: f64| (-1_000_000.0..=1_000_000.0).contains(&x);
-    let is_bulge = |b: f64| (-1000.0..=1000.0).contains(&b);
+    let is_bulge = |b: f64| (-1e9..=1e9).contains(&b);
     let v = job.source.len() / 3;
     let bad_vertex = |n: &[f64]| !(in_plane(n[0]) && in_plane(n[1]) && is_bulge(n[2]));
     if let Some(place) = job.source.chunks(3).position(bad_vertex) {
@@ -93,10 +95,11 @@ fn bad_number(job: &Job) -> Option<usize> {
     }
 }
 
-/// 01 §1 No. 5: the start of the first segment whose two ends are within ε.
-fn repeated(pline: &Polyline, eps: f64) -> Option<usize> {
-    let within = |(v1, v2): (PlineVertex, PlineVertex)| v1.pos().fuzzy_eq_eps(v2.pos(), eps);
-    pline.iter_segments().position(within)
+/// No. 5 after 2026-02: the start of the first segment whose two ends are equal in x and in y. By
+/// value, so −0 equals +0; ε has no part in it.
+fn repeated(pline: &Polyline) -> Option<usize> {
+    let equal = |(v1, v2): (PlineVertex, PlineVertex)| v1.x == v2.x && v1.y == v2.y;
+    pline.iter_segments().position(equal)
 }
 
 fn is_finite(vertex: &PlineVertex) -> bool {

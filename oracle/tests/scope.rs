@@ -1,4 +1,5 @@
-//! 01 section 5's rows and limits, and what section 1 says of the buffers.
+//! 01 section 5's rows and limits, and what section 1 says of the buffers; Nos. 3 and 5 as 02's
+//! 2026-02 amends them.
 #![cfg(with_000)]
 
 use oracle::job;
@@ -167,7 +168,7 @@ fn room_for_three_is_refused_and_four_suffices() {
 #[test]
 fn limits_pass_and_the_next_doubles_do_not() {
     let good = open(&[[0.0, 0.0], [4.0, 0.0], [4.0, 4.0]], 1.0);
-    for (slot, limit) in [(3, 1_000_000.0), (4, 1_000_000.0), (5, 1000.0)] {
+    for (slot, limit) in [(3, 1_000_000.0), (4, 1_000_000.0), (5, 1_000_000_000.0)] {
         for sign in [1.0, -1.0] {
             let mut job = good.clone();
             job.source[slot] = sign * limit;
@@ -236,7 +237,7 @@ fn the_count_of_vertices_is_limited() {
 
 #[test]
 fn refusals_come_in_order() {
-    let repeated = [[0.0, 0.0], [1.0, 0.0], [1.0, 9.0e-6], [5.0, 5.0]];
+    let repeated = [[0.0, 0.0], [1.0, 0.0], [1.0, -0.0], [5.0, 5.0]];
     let mut job = open(&repeated, 1.0);
     refuses(&job, 5, 1);
     job.lend(5);
@@ -249,13 +250,56 @@ fn refusals_come_in_order() {
     refuses(&job, 3, 3);
     job.source.pop();
     refuses(&job, 1, 0);
-    // Last to first counts only in a closed job.
-    let back = line(&[[0.0, 0.0], [1.0, 0.0], [1.0, 1.0], [0.0, 9.0e-6]]);
-    refuses(&Job::new(true, 1.0, EPS, numbers(&back)), 5, 3);
-    assert_eq!(
-        outcome(&Job::new(false, 1.0, EPS, numbers(&back))).answer[0],
-        0
-    );
+}
+
+#[test]
+fn equal_vertices_are_refused_at_the_first_pair() {
+    let equal = [[2.0, 3.0], [2.0, 3.0]];
+    let zeros = [[0.0, -0.0], [-0.0, 0.0]];
+    for [a, b] in [equal, zeros] {
+        for closed in [false, true] {
+            let mut job = Job::new(closed, -1.0, EPS, numbers(&line(&[a, b, [4.0, 9.0]])));
+            refuses(&job, 5, 0);
+            job.source = numbers(&line(&[[4.0, 9.0], a, b]));
+            refuses(&job, 5, 1);
+            // A bulge makes no circle of two equal ends.
+            job.source[5] = 1e9;
+            refuses(&job, 5, 1);
+        }
+        let first_of_two = line(&[[4.0, 9.0], a, b, [5.0, 5.0], a, b]);
+        refuses(&Job::new(false, 1.0, EPS, numbers(&first_of_two)), 5, 1);
+        // Last to first counts only in a closed job.
+        let back = numbers(&line(&[a, [4.0, 9.0], [7.0, 1.0], b]));
+        refuses(&Job::new(true, 1.0, EPS, back.clone()), 5, 3);
+        assert_eq!(outcome(&Job::new(false, 1.0, EPS, back)).answer[0], 0);
+    }
+}
+
+/// Vertices that differ in one number, however little, are two.
+#[test]
+fn unequal_vertices_are_never_repeated() {
+    let (up, down) = (2.0_f64.next_up(), 3.0_f64.next_down());
+    let least = f64::from_bits(1);
+    for [a, b] in [
+        [[2.0, 3.0], [up, 3.0]],
+        [[2.0, 3.0], [2.0, down]],
+        [[0.0, -0.0], [least, 0.0]],
+        [[0.0, 0.0], [-0.0, -least]],
+        [[least, 0.0], [2.0 * least, 0.0]],
+        [[1.0, 0.0], [1.0, 9.0e-6]],
+        [[0.0, 0.0], [EPS.next_down(), -EPS.next_down()]],
+    ] {
+        for closed in [false, true] {
+            for points in [[a, b, [4.0, 9.0]], [[4.0, 9.0], a, b], [b, [4.0, 9.0], a]] {
+                for bulge in [0.0, 1.0, -1e9] {
+                    let mut job = Job::new(closed, 1.0, EPS, numbers(&line(&points)));
+                    job.source[2] = bulge;
+                    let number = outcome(&job).answer[0];
+                    assert!(number == 0 || number == 6, "{job:?}");
+                }
+            }
+        }
+    }
 }
 
 #[test]

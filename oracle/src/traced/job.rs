@@ -1,4 +1,4 @@
-//! The job of 01 section 1, with its tests recorded.
+//! The job of 01 section 1, as 02's 2026-02 amends it, with its tests recorded.
 
 use super::joins::Setting;
 use super::moves::Drawing;
@@ -113,8 +113,8 @@ impl Trace {
             });
         }
         for (i, (v1, v2)) in source.iter_segments().enumerate() {
-            let sites = [Site::RepeatedX, Site::RepeatedY];
-            if self.near(sites, v1.pos(), v2.pos(), job.eps) {
+            if self.equals(Site::RepeatedX, v1.x, v2.x) && self.equals(Site::RepeatedY, v1.y, v2.y)
+            {
                 return Result::Refused(5, i);
             }
         }
@@ -146,7 +146,7 @@ impl Trace {
         let limits = [
             (Site::XAtLeast, Site::XAtMost, 1_000_000.0),
             (Site::YAtLeast, Site::YAtMost, 1_000_000.0),
-            (Site::BulgeAtLeast, Site::BulgeAtMost, 1000.0),
+            (Site::BulgeAtLeast, Site::BulgeAtMost, 1_000_000_000.0),
         ];
         for (i, number) in job.source.iter().enumerate() {
             let (low, high, limit) = limits[i % 3];
