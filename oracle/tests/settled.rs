@@ -140,3 +140,82 @@ fn a_round_connector_of_size_0_has_minus_0() {
     assert_eq!(outcome.answer, [0, 0, 4, 0, 0]);
     assert_eq!(outcome.drawn()[1][2].to_bits(), (-0.0_f64).to_bits());
 }
+
+/// Two vertices, open, the first with that bulge.
+fn pair(offset: f64, bulge: f64, [a, b]: [[f64; 2]; 2]) -> Job {
+    job(
+        false,
+        offset,
+        1e-5,
+        &[[a[0], a[1], bulge], [b[0], b[1], 0.0]],
+    )
+}
+
+#[test]
+fn the_two_zeros_are_one_number_to_no_5() {
+    let zeros = [[0.0; 3], [-0.0, 0.0, 0.0], [4.0, 0.0, 0.0]];
+    assert_eq!(run(&job(false, 1.0, 1e-5, &zeros)).answer, [5, 0, 0, 0, 0]);
+    let twice = [[2.0, 3.0, 0.0]; 2];
+    assert_eq!(run(&job(true, 1.0, 1e-5, &twice)).answer, [5, 0, 0, 0, 0]);
+    // Last to first at the last vertex; one vertex closed is joined to nothing.
+    let corners = [[0.0; 3], [4.0, 0.0, 0.0], [4.0, 4.0, 0.0], [0.0, -0.0, 0.0]];
+    let closed = run(&job(true, 1.0, 1e-5, &corners));
+    assert_eq!(closed.answer, [5, 3, 0, 0, 0]);
+    let lone = [[1.0, 1.0, 1e9]];
+    assert_eq!(run(&job(true, 1.0, 1e-5, &lone)).answer, [0; 5]);
+}
+
+/// The square of 1e-200 is 0, and so is the length that the direction is divided by.
+#[test]
+fn a_chord_whose_square_underflows_is_no_number() {
+    let ends = [[0.0, 0.0], [1e-200, 0.0]];
+    assert_eq!(run(&pair(1.0, 0.0, ends)).answer, [6, 0, 0, 0, 0]);
+    // An arc's radius is 0 then: to its inner side it collapses, to the other it is no number.
+    assert_eq!(run(&pair(1.0, 1.0, ends)).answer, [0; 5]);
+    assert_eq!(run(&pair(-1.0, 1.0, ends)).answer, [6, 0, 0, 0, 0]);
+}
+
+/// Its offset is as short as it is, so both its joins are gaps; it is dropped between them.
+#[test]
+fn a_segment_shorter_than_eps_has_zero_tangents() {
+    let step = [
+        [0.0; 3],
+        [4.0, 0.0, 0.0],
+        [4.0, -1e-6, 0.0],
+        [8.0, -1e-6, 0.0],
+    ];
+    let outcome = run(&job(false, 1.0, 1e-5, &step));
+    assert_eq!(outcome.answer, [0, 0, 5, 2, 0]);
+    assert_eq!(outcome.drawn_flags(), [0, 1, 1, 0]);
+    let points: Vec<[f64; 2]> = outcome.drawn().iter().map(|v| [v[0], v[1]]).collect();
+    let below = 1.0 - 1e-6;
+    let expected = [
+        [0.0, 1.0],
+        [4.0, 1.0],
+        [5.0, 0.0],
+        [4.0, below],
+        [8.0, below],
+    ];
+    assert_eq!(points, expected);
+}
+
+/// A gap that is less than ε in the offset too leaves one vertex, and so nothing.
+#[test]
+fn a_keyhole_can_draw_nothing() {
+    let narrow = [[10.0, 5e-7], [10.0, -5e-7]];
+    assert_eq!(run(&pair(-1.0, 4e7, narrow)).answer, [0; 5]);
+    // Less than ε in the source, more in the offset.
+    let wider = pair(-1.0, 4210526.3, [[10.0, 4.75e-6], [10.0, -4.75e-6]]);
+    let outcome = run(&wider);
+    assert_eq!(outcome.answer, [0, 0, 2, 0, 0]);
+    let bits: Vec<[u64; 3]> = outcome
+        .drawn()
+        .iter()
+        .map(|v| v.map(f64::to_bits))
+        .collect();
+    let [x, y] = [0x4025_ffff_ffff_ffc0, 0x3ed5_ea4d_1074_218c];
+    let expected = [[x, y, 0x4150_0fd7_9331_ef24], [x, y | 1 << 63, 0]];
+    assert_eq!(bits, expected);
+    let closed = Job::new(true, wider.offset, wider.eps, wider.source);
+    assert_eq!(run(&closed).answer, [0; 5]);
+}
