@@ -10,6 +10,7 @@ pub mod generate;
 mod job;
 #[cfg(feature = "layers")]
 pub mod layers;
+pub mod newly;
 #[cfg(with_000)]
 pub mod packed;
 pub mod polyline;

@@ -1,6 +1,6 @@
 //! Families of random jobs, each near some boundary of the rules.
 
-use super::Random;
+use super::{KEYHOLES, Random};
 use crate::core::math::Vector2;
 use crate::polyline::{PlineVertex, seg_arc_radius_and_center};
 use crate::stage::Job;
@@ -26,6 +26,13 @@ pub const FAMILIES: &[Family] = &[
     ("a small circle on a large one", small_circle),
     ("small rings far out", ring),
     ("odd numbers", odd),
+    KEYHOLES[0],
+    KEYHOLES[1],
+    KEYHOLES[2],
+    KEYHOLES[3],
+    KEYHOLES[4],
+    KEYHOLES[5],
+    // Others are damaged: all but these two.
     ("damaged", damaged),
     ("long", long),
 ];
@@ -45,22 +52,37 @@ const ROUND_BULGES: [f64; 12] = [
     -3.0,
 ];
 
-const TOLERANCES: [f64; 5] = [1e-5, 1e-9, 0.01, 1e-3, 1e-7];
+pub(super) const TOLERANCES: [f64; 5] = [1e-5, 1e-9, 0.01, 1e-3, 1e-7];
+
+/// The largest bulge, by 2026-02.
+const MOST_BULGE: f64 = 1e9;
 
 fn lines(_: &mut Random) -> f64 {
     0.0
 }
 
 fn arcs(random: &mut Random) -> f64 {
-    match random.below(4) {
-        0 => random.around(1.0),
-        1 => random.around(10.0),
-        2 => random.sign() * random.size(-8.5, 3.0),
+    match random.below(8) {
+        0 | 1 => random.around(1.0),
+        2 | 3 => random.around(10.0),
+        4 | 5 => random.sign() * random.size(-8.5, 9.0),
+        6 if random.one_in(4) => steep_bulge(random),
         _ => random.pick(&[1.0, -1.0, 0.5, -0.5, 2.0]),
     }
 }
 
-fn mixed(random: &mut Random) -> f64 {
+/// A bulge above 01's 1000: next to it, of any size, or at the limit.
+pub(super) fn steep_bulge(random: &mut Random) -> f64 {
+    let size = match random.below(8) {
+        0 => 1000.0_f64.next_up(),
+        1 => MOST_BULGE,
+        2 => MOST_BULGE.next_down(),
+        _ => random.size(3.0, 9.0),
+    };
+    random.sign() * size
+}
+
+pub(super) fn mixed(random: &mut Random) -> f64 {
     if random.one_in(2) { 0.0 } else { arcs(random) }
 }
 
@@ -75,7 +97,7 @@ fn count(random: &mut Random) -> usize {
     }
 }
 
-fn job(
+pub(super) fn job(
     random: &mut Random,
     offset: f64,
     eps: f64,
@@ -98,7 +120,7 @@ fn job_of(
     Job::new(closed, offset, eps, source)
 }
 
-fn scattered(random: &mut Random, bulge: fn(&mut Random) -> f64) -> Job {
+pub(super) fn scattered(random: &mut Random, bulge: fn(&mut Random) -> f64) -> Job {
     let size = random.size(-1.0, 2.0);
     let offset = random.sign() * size * random.size(-2.0, 0.5);
     let eps = random.pick(&TOLERANCES);
@@ -108,7 +130,7 @@ fn scattered(random: &mut Random, bulge: fn(&mut Random) -> f64) -> Job {
 }
 
 /// Points of a small grid: straight on, reversed, coincident, overlapping.
-fn snapped(random: &mut Random) -> Job {
+pub(super) fn snapped(random: &mut Random) -> Job {
     let step = random.pick(&[1.0, 0.5, 0.25, 3.0]);
     let offset = random.sign() * random.pick(&[0.25, 0.5, 1.0, 1.5, 2.0, 4.0, SQRT_2]);
     let eps = random.pick(&[1e-5, 1e-5, 0.01, 1e-9]);
@@ -119,8 +141,8 @@ fn snapped(random: &mut Random) -> Job {
     })
 }
 
-/// A snapped job with one number moved by about ε, by a few units in the last place, or by a
-/// middling step.
+/// A snapped job with one number moved by about ε, by a few units in the last place, by a middling
+/// step, or turned in its sign.
 fn nudged(random: &mut Random) -> Job {
     let mut job = snapped(random);
     if job.source.is_empty() {
@@ -129,10 +151,11 @@ fn nudged(random: &mut Random) -> Job {
     for _ in 0..=random.below(3) {
         let slot = random.below(job.source.len());
         let number = &mut job.source[slot];
-        match random.below(4) {
+        match random.below(5) {
             0 => *number += job.eps * random.around(2.0),
             1 => *number += job.eps * random.pick(&[1.0, -1.0, 0.5, 2.0]),
             2 => *number += random.sign() * random.size(-9.0, -1.0),
+            3 => *number = -*number,
             _ => {
                 for _ in 0..=random.below(3) {
                     *number = number.next_up();
@@ -227,13 +250,16 @@ fn same_circle(random: &mut Random) -> Job {
     )
 }
 
-/// Segments about as long as ε.
+/// Segments about as long as ε, or all shorter.
 fn tiny(random: &mut Random) -> Job {
     let eps = random.pick(&TOLERANCES);
     let offset = random.sign() * eps * random.size(-1.0, 6.0).min(1e5 / eps);
     let at =
         Vector2::new(random.around(1.0), random.around(1.0)).scale(random.pick(&[0.0, 1.0, 1e3]));
-    let size = eps * random.pick(&[1.0, 1.5, 2.0, 4.0]);
+    let size = match random.below(8) {
+        0 => eps * random.size(-12.0, 0.0),
+        _ => eps * random.pick(&[0.5, 1.0, 1.5, 2.0, 4.0]),
+    };
     job(random, offset, eps, |random| {
         let part = |random: &mut Random| match random.below(3) {
             0 => random.pick(&[0.0, 1.0, -1.0]) * size,
@@ -294,7 +320,7 @@ fn wide(random: &mut Random) -> Job {
         let bulge = match random.below(4) {
             0 => 0.0,
             1 => random.sign() * random.size(-8.1, -7.0),
-            2 => random.pick(&[1000.0, -1000.0, 1e-8, -1e-8]),
+            2 => random.sign() * random.pick(&[MOST_BULGE, 1000.0, 1e-8]),
             _ => arcs(random),
         };
         [part(random), part(random), bulge]
@@ -418,7 +444,7 @@ fn odd(random: &mut Random) -> Job {
     let (limit, number) = match slot {
         0 => (1e6, &mut job.offset),
         1 => (random.pick(&[1e-9, 0.01]), &mut job.eps),
-        _ if slot % 3 == 1 => (1000.0, &mut job.source[slot - 2]),
+        _ if slot % 3 == 1 => (MOST_BULGE, &mut job.source[slot - 2]),
         _ => (1e6, &mut job.source[slot - 2]),
     };
     *number = match random.below(8) {

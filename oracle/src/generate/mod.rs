@@ -3,10 +3,12 @@
 
 mod families;
 mod grid;
+mod keyholes;
 mod random;
 mod steer;
 
 pub use families::{FAMILIES, Family, with_a_nan};
 pub use grid::each_short_job;
+pub use keyholes::KEYHOLES;
 pub use random::Random;
 pub use steer::Steering;

@@ -1,18 +1,28 @@
 //! The jobs in turn, each with the name of its family.
 
-use oracle::generate::{FAMILIES, Random, Steering, each_short_job, with_a_nan};
+use oracle::generate::{FAMILIES, Family, Random, Steering, each_short_job, with_a_nan};
 use oracle::stage::Job;
 
 /// One in so many random jobs is handed out again with a NaN in it.
 const PER_NAN: u64 = 20;
 
-/// Hands out the jobs of the grid and `random` random ones, some of them with a NaN as well.
+/// Hands out the jobs of the grid and `random` random ones of all families.
 pub fn each_plain_job(seed: u64, random: u64, mut take: impl FnMut(&'static str, &Job)) {
     each_short_job(|job| take("grid", &job));
+    each_random_job(FAMILIES, seed, random, take);
+}
+
+/// Hands out `count` jobs, by turns of each family, some of them once more with a NaN.
+pub fn each_random_job(
+    families: &[Family],
+    seed: u64,
+    count: u64,
+    mut take: impl FnMut(&'static str, &Job),
+) {
     let mut source = Random::new(seed);
     let mut nans = Random::new(seed.rotate_left(32));
-    for i in 0..random {
-        let (name, family) = FAMILIES[i as usize % FAMILIES.len()];
+    for i in 0..count {
+        let (name, family) = families[i as usize % families.len()];
         let job = family(&mut source);
         take(name, &job);
         if i % PER_NAN == 0 {

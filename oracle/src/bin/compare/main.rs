@@ -3,7 +3,9 @@
 //!
 //! - `compare SEED RANDOM STEERED` runs the jobs of the grid, RANDOM random ones and about STEERED
 //!   steered ones, and says which tests and outcomes they reach.
-//! - `compare bulk SEED JOBS` runs the grid and JOBS random ones on 000 and the proved code alone.
+//! - `compare bulk SEED JOBS` runs the grid and JOBS random ones on 000 and, where it is built in, the
+//!   proved code alone.
+//! - `compare keyholes SEED JOBS` likewise, only of the families that 02's 2026-02 let in.
 //! - `compare rows` runs the jobs that standard input holds, a row each, and prints their outcomes.
 //! - `compare cover SEED RANDOM STEERED` prints a short list of small jobs that reaches all that
 //!   these reach.
@@ -15,6 +17,8 @@ mod cover;
 mod jobs;
 #[cfg(feature = "layers")]
 mod layers;
+#[cfg(with_000)]
+mod newly;
 #[cfg(with_000)]
 mod sides;
 #[cfg(with_000)]
@@ -35,7 +39,8 @@ fn main() {
         Some(false) => exit(1),
         None => {
             eprintln!(
-                "usage: compare [cover] SEED RANDOM STEERED | bulk SEED JOBS | layers SEED COUNT | rows"
+                "usage: compare [cover] SEED RANDOM STEERED | bulk SEED JOBS | keyholes SEED JOBS \
+                 | layers SEED COUNT | rows"
             );
             exit(2);
         }
@@ -65,8 +70,8 @@ fn run_jobs(mode: &str, numbers: &[u64]) -> Option<bool> {
             cover::cover(*seed, *random, *steered);
             Some(true)
         }
-        #[cfg(feature = "proved")]
         ("bulk", [seed, jobs]) => Some(sides::bulk(*seed, *jobs)),
+        ("keyholes", [seed, jobs]) => Some(sides::keyholes(*seed, *jobs)),
         ("rows", []) => Some(sides::rows()),
         _ => None,
     }

@@ -1,7 +1,8 @@
 //! The sides that are held against 000, and the count of what they were asked.
 
-#[cfg(feature = "proved")]
-use crate::jobs::each_plain_job;
+use crate::jobs::{each_plain_job, each_random_job};
+use crate::newly::Counts;
+use oracle::generate::KEYHOLES;
 use oracle::stage::{Before, Job, Outcome, Stage};
 use oracle::text::{any_job_row, outcome_row, read_job};
 use std::io::stdin;
@@ -16,6 +17,12 @@ pub const SIDES: &[(&str, Stage)] = &[
 #[cfg(feature = "proved")]
 const PROVED: (&str, Stage) = ("proved", oracle::proved::job);
 
+/// What is held against 000 in bulk: the proved code alone, where it is there.
+#[cfg(feature = "proved")]
+const IN_BULK: &[(&str, Stage)] = &[PROVED];
+#[cfg(not(feature = "proved"))]
+const IN_BULK: &[(&str, Stage)] = SIDES;
+
 /// Differences are printed up to this many.
 const SHOWN: u64 = 10;
 
@@ -28,6 +35,7 @@ pub struct Tally {
     families: Vec<(&'static str, [u64; NUMBERS])>,
     /// For each number, which patterns the buffers held before a job that it answers.
     lent: [[bool; Before::PATTERNS]; NUMBERS],
+    newly: Counts,
     pub jobs: u64,
     pub differing: u64,
 }
@@ -39,6 +47,7 @@ impl Tally {
         let expected = job.run_compared(oracle::job);
         let number = expected.answer[0] as usize;
         self.count(family, number);
+        self.newly.count(job, &expected.answer);
         self.lent[number][job.before().which()] = true;
         if !expected.keeps(job, job.before()) {
             self.differ("000 changes a place that stays", job, &expected, &expected);
@@ -85,8 +94,20 @@ impl Tally {
         println!("patterns lent, of {of}, to jobs answered 0, 1, .. 6:{lent}");
     }
 
+    pub fn print_newly(&self) {
+        self.newly.print();
+    }
+
     pub fn print_end(&self) {
         println!("{} jobs, {} differences", self.jobs, self.differing);
+    }
+
+    /// Prints all counts and says whether no side differed.
+    fn agree(&self) -> bool {
+        self.print_families();
+        self.print_newly();
+        self.print_end();
+        self.differing == 0
     }
 }
 
@@ -102,16 +123,20 @@ fn show(what: &str, job: &Job, expected: &Outcome, outcome: &Outcome) {
     println!("  here {outcome:?}");
 }
 
-/// Holds the proved code against 000 on the grid and on random jobs.
-#[cfg(feature = "proved")]
+/// Runs the grid and random jobs of all families.
 pub fn bulk(seed: u64, jobs: u64) -> bool {
     let mut tally = Tally::default();
-    each_plain_job(seed, jobs, |family, job| {
-        tally.hold(family, job, &[PROVED]);
+    each_plain_job(seed, jobs, |family, job| tally.hold(family, job, IN_BULK));
+    tally.agree()
+}
+
+/// Runs random jobs of the families that 2026-02 let in.
+pub fn keyholes(seed: u64, jobs: u64) -> bool {
+    let mut tally = Tally::default();
+    each_random_job(KEYHOLES, seed, jobs, |family, job| {
+        tally.hold(family, job, IN_BULK);
     });
-    tally.print_families();
-    tally.print_end();
-    tally.differing == 0
+    tally.agree()
 }
 
 /// Runs the jobs of standard input and prints what 000 answers.

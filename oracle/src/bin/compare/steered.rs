@@ -51,6 +51,7 @@ pub fn compare(seed: u64, random: u64, steered: u64) -> bool {
         println!("  {:44} {turns:>9} {idle:>9} {ties:>6}", site.text());
     }
     reach.table.print();
+    tally.print_newly();
     tally.print_end();
     tally.differing == 0
 }

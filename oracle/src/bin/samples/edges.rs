@@ -1,12 +1,15 @@
-//! Jobs at the edges of 01 section 1: rooms, limits, refusals with their places and their order,
-//! short sources, and an offset of zero.
+//! Jobs at the edges of 01 section 1, as 02's 2026-02 amends it: rooms, limits, refusals with their
+//! places and their order, short sources, and an offset of zero.
 
 use oracle::stage::Job;
 
 const EPS: f64 = 1e-5;
 const REACH: f64 = 1_000_000.0;
-const BULGE: f64 = 1000.0;
+const BULGE: f64 = 1_000_000_000.0;
+/// 01's limit, which 2026-02 took away.
+const OLD_BULGE: f64 = 1000.0;
 const INF: f64 = f64::INFINITY;
+const TINY: f64 = f64::from_bits(1);
 
 /// No room, too many places and too few of each kind, around what a job needs.
 pub fn rooms() -> Vec<Job> {
@@ -53,6 +56,11 @@ pub fn limits() -> Vec<Job> {
             jobs.push(job);
         }
     }
+    for bulge in [OLD_BULGE.next_up(), -OLD_BULGE.next_up(), 1e6, -1e6] {
+        let mut job = good.clone();
+        job.source[5] = bulge;
+        jobs.push(job);
+    }
     for offset in around(-REACH, REACH) {
         jobs.push(Job {
             offset,
@@ -70,6 +78,7 @@ pub fn limits() -> Vec<Job> {
 
 /// Jobs that earn two refusals or more, and places of the first bad vertex and the first pair.
 pub fn refusals() -> Vec<Job> {
+    // The first pair is short, the second is equal.
     let repeated = [
         [0.0, 0.0, 0.0],
         [1.0, 0.0, 0.0],
@@ -97,20 +106,37 @@ pub fn refusals() -> Vec<Job> {
     jobs
 }
 
-/// Joined vertices that are near in one number or in both, less than ε apart, or just ε.
+/// Two points that are equal, also as two zeros; that differ in one number by as little as doubles
+/// can; whose difference has a square of 0, or a subnormal one; that lie within ε, or just ε apart.
+const NEIGHBOURS: [[[f64; 2]; 2]; 13] = [
+    [[2.0, 3.0], [2.0, 3.0]],
+    [[0.0, -0.0], [-0.0, 0.0]],
+    [[-0.0, 3.0], [0.0, 3.0]],
+    [[2.0, 3.0], [2.0_f64.next_up(), 3.0]],
+    [[2.0, 3.0], [2.0, 3.0_f64.next_down()]],
+    [[0.0, -0.0], [TINY, 0.0]],
+    [[0.0, 0.0], [-0.0, -TINY]],
+    [[0.0, 0.0], [0.0, 1e-200]],
+    [[0.0, 0.0], [2e-162, 1e-162]],
+    [[0.0, 0.0], [3e-160, 0.0]],
+    [[0.0, 0.0], [EPS.next_down(), EPS.next_down()]],
+    [[0.0, 0.0], [EPS, 0.0]],
+    [[0.0, 0.0], [0.0, -EPS]],
+];
+
+/// Such a pair first, last to first, and in the middle.
 fn pairs() -> Vec<Job> {
     let mut jobs = Vec::new();
-    let below = EPS.next_down();
-    for (x, y) in [(0.0, 0.0), (below, below), (EPS, 0.0), (0.0, -EPS)] {
+    for [[ax, ay], [bx, by]] in NEIGHBOURS {
+        let first = [[ax, ay, 1.0], [bx, by, 0.0], [4.0, 4.0, 0.0]];
+        let last = [[bx, by, 0.0], [4.0, 0.0, 0.0], [ax, ay, 0.0]];
+        let middle = [
+            [8.0, 0.0, 0.0],
+            [ax, ay, 0.5],
+            [bx, by, 0.0],
+            [4.0, 4.0, 0.0],
+        ];
         for closed in [false, true] {
-            let first = [[0.0, 0.0, 1.0], [x, y, 0.0], [4.0, 4.0, 0.0]];
-            let last = [[0.0, 0.0, 0.0], [4.0, 0.0, 0.0], [x, y, 0.0]];
-            let middle = [
-                [8.0, 0.0, 0.0],
-                [0.0, 0.0, 0.5],
-                [x, y, 0.0],
-                [4.0, 4.0, 0.0],
-            ];
             for source in [first.concat(), last.concat(), middle.concat()] {
                 jobs.push(Job::new(closed, 1.0, EPS, source));
             }
