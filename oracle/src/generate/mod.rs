@@ -1,4 +1,4 @@
-//! Jobs to compare on: all short ones over a small grid, random ones of several families, and
+//! Jobs to compare on: all short ones over small grids, random ones of several families, and
 //! jobs steered to the doubles between which a test turns.
 
 mod families;
@@ -8,7 +8,7 @@ mod random;
 mod steer;
 
 pub use families::{FAMILIES, Family, with_a_nan};
-pub use grid::each_short_job;
+pub use grid::{each_close_job, each_short_job};
 pub use keyholes::KEYHOLES;
 pub use random::Random;
 pub use steer::Steering;

@@ -143,5 +143,27 @@ impl Table {
                 println!("  {:9} {:46} {count:>11}{mark}", pair.text(), event.text());
             }
         }
+        for (pair, event, count) in self.not_listed() {
+            let (pair, event) = (pair.text(), event.text());
+            println!("  {pair:9} {event:46} {count:>11}  <- not listed");
+        }
+    }
+
+    /// What happened though `EXPECTED` does not have it.
+    pub fn not_listed(&self) -> Vec<(Pair, Event, u64)> {
+        let listed = |pair, event| {
+            let mut rows = EXPECTED.iter().filter(|row| row.0 == pair);
+            rows.any(|row| row.1.contains(&event))
+        };
+        let mut found = Vec::new();
+        for pair in Pair::ALL {
+            for event in Event::ALL {
+                let count = self.events[*event as usize][*pair as usize];
+                if count > 0 && !listed(*pair, *event) {
+                    found.push((*pair, *event, count));
+                }
+            }
+        }
+        found
     }
 }

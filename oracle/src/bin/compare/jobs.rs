@@ -1,14 +1,17 @@
 //! The jobs in turn, each with the name of its family.
 
-use oracle::generate::{FAMILIES, Family, Random, Steering, each_short_job, with_a_nan};
+use oracle::generate::{
+    FAMILIES, Family, Random, Steering, each_close_job, each_short_job, with_a_nan,
+};
 use oracle::stage::Job;
 
 /// One in so many random jobs is handed out again with a NaN in it.
 const PER_NAN: u64 = 20;
 
-/// Hands out the jobs of the grid and `random` random ones of all families.
+/// Hands out the jobs of the grids and `random` random ones of all families.
 pub fn each_plain_job(seed: u64, random: u64, mut take: impl FnMut(&'static str, &Job)) {
     each_short_job(|job| take("grid", &job));
+    each_close_job(|job| take("close grid", &job));
     each_random_job(FAMILIES, seed, random, take);
 }
 

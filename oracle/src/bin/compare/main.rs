@@ -1,11 +1,11 @@
 //! Runs the sides of the comparison on the same jobs and holds their whole outcomes against each
 //! other: answer and every lent place.
 //!
-//! - `compare SEED RANDOM STEERED` runs the jobs of the grid, RANDOM random ones and about STEERED
+//! - `compare SEED RANDOM STEERED` runs the jobs of the grids, RANDOM random ones and about STEERED
 //!   steered ones, and says which tests and outcomes they reach.
-//! - `compare bulk SEED JOBS` runs the grid and JOBS random ones on 000 and, where it is built in, the
+//! - `compare bulk SEED JOBS` runs the grids and JOBS random ones on 000 and, where it is built in, the
 //!   proved code alone.
-//! - `compare keyholes SEED JOBS` likewise, only of the families that 02's 2026-02 let in.
+//! - `compare keyholes SEED JOBS` likewise, only the grid and families that 02's 2026-02 let in.
 //! - `compare rows` runs the jobs that standard input holds, a row each, and prints their outcomes.
 //! - `compare cover SEED RANDOM STEERED` prints a short list of small jobs that reaches all that
 //!   these reach.

@@ -2,7 +2,7 @@
 
 use crate::jobs::{each_plain_job, each_random_job};
 use crate::newly::Counts;
-use oracle::generate::KEYHOLES;
+use oracle::generate::{KEYHOLES, each_close_job};
 use oracle::stage::{Before, Job, Outcome, Stage};
 use oracle::text::{any_job_row, outcome_row, read_job};
 use std::io::stdin;
@@ -123,16 +123,17 @@ fn show(what: &str, job: &Job, expected: &Outcome, outcome: &Outcome) {
     println!("  here {outcome:?}");
 }
 
-/// Runs the grid and random jobs of all families.
+/// Runs the grids and random jobs of all families.
 pub fn bulk(seed: u64, jobs: u64) -> bool {
     let mut tally = Tally::default();
     each_plain_job(seed, jobs, |family, job| tally.hold(family, job, IN_BULK));
     tally.agree()
 }
 
-/// Runs random jobs of the families that 2026-02 let in.
+/// Runs the close grid and random jobs of the families that 2026-02 let in.
 pub fn keyholes(seed: u64, jobs: u64) -> bool {
     let mut tally = Tally::default();
+    each_close_job(|job| tally.hold("close grid", &job, IN_BULK));
     each_random_job(KEYHOLES, seed, jobs, |family, job| {
         tally.hold(family, job, IN_BULK);
     });
