@@ -15,6 +15,13 @@ const LONGEST: usize = 6;
 /// How often another answer is looked for near a job.
 const PROBES: usize = 16;
 
+/// A test of a job that asks it once or more: its first asking, or its last.
+#[derive(Copy, Clone)]
+struct Aim {
+    site: Site,
+    last: bool,
+}
+
 pub struct Steering {
     random: Random,
     /// For each test, jobs that answer it no and yes.
@@ -45,7 +52,7 @@ impl Steering {
 
     /// Takes a random job into the pools of the tests that it asks.
     fn draw(&mut self) {
-        let (_, family) = FAMILIES[self.random.below(FAMILIES.len())];
+        let (_, family) = self.random.pick(FAMILIES);
         let job = family(&mut self.random);
         self.keep(&job);
     }
@@ -75,18 +82,20 @@ impl Steering {
             return Vec::new();
         };
         self.aimed[site as usize] += 1;
-        let Some((job, other)) = self.two_answers(site) else {
+        let last = self.random.one_in(2);
+        let aim = Aim { site, last };
+        let Some((job, other)) = self.two_answers(aim) else {
             return Vec::new();
         };
         // Goes over to the other job number by number, until the answer changes.
-        let answer = answer_of(&job, site);
+        let answer = answer_of(&job, aim);
         let mut near = job;
         let slots = near.source.len() + 2;
         let first = self.random.below(slots);
         for slot in (0..slots).map(|i| (first + i) % slots) {
             let far = with(&near, slot, value(&other, slot));
-            if answer_of(&far, site) != answer {
-                return self.between(&near, slot, value(&far, slot), site);
+            if answer_of(&far, aim) != answer {
+                return self.between(&near, slot, value(&far, slot), aim);
             }
             near = far;
         }
@@ -112,8 +121,8 @@ impl Steering {
     }
 
     /// Two jobs of like shape that answer a test differently.
-    fn two_answers(&mut self, site: Site) -> Option<(Job, Job)> {
-        let pools = &self.pools[site as usize];
+    fn two_answers(&mut self, aim: Aim) -> Option<(Job, Job)> {
+        let pools = &self.pools[aim.site as usize];
         let rarer = usize::from(pools[1].len() < pools[0].len());
         let from = if pools[rarer].is_empty() || self.random.one_in(4) {
             1 - rarer
@@ -122,42 +131,59 @@ impl Steering {
         };
         let job = self.random.pick_clone(&pools[from])?;
         if self.random.one_in(4)
-            && let Some(other) = self.random.pick_clone(&self.pools[site as usize][1 - from])
+            && let Some(other) = self
+                .random
+                .pick_clone(&self.pools[aim.site as usize][1 - from])
             && (other.closed, other.source.len()) == (job.closed, job.source.len())
         {
             return Some((job, other));
         }
-        let answer = answer_of(&job, site)?;
-        let found = |other: &Job| answer_of(other, site) == Some(!answer);
         if self.random.one_in(2)
-            && let Some(other) = self.followed(&job, site)
+            && let Some(other) = self.followed(&job, aim)
         {
             return Some((job, other));
         }
+        let other = self.probed(&job, aim)?;
+        Some((job, other))
+    }
+
+    /// A job near by that answers a test the other way.
+    fn probed(&mut self, job: &Job, aim: Aim) -> Option<Job> {
+        let answer = answer_of(job, aim)?;
         for _ in 0..PROBES {
             let mut other = job.clone();
             for _ in 0..=self.random.below(2) {
                 let slot = self.random.below(job.source.len() + 2);
-                let size = value(&job, slot).abs().max(job.eps) * self.random.size(-9.0, 0.5);
-                let moved = value(&job, slot) + self.random.around(size);
-                other = with(&other, slot, moved);
+                other = with(&other, slot, self.moved(job, slot));
             }
-            if found(&other) {
-                return Some((job, other));
+            if answer_of(&other, aim) == Some(!answer) {
+                return Some(other);
             }
         }
         None
     }
 
+    /// Another value for a number: near it, or that of another vertex, since no step that is not
+    /// aimed makes two numbers equal.
+    fn moved(&mut self, job: &Job, slot: usize) -> f64 {
+        let number = value(job, slot);
+        if slot >= 2 && self.random.one_in(4) {
+            let vertex = self.random.below(job.source.len() / 3);
+            return job.source[3 * vertex + (slot - 2) % 3];
+        }
+        let size = number.abs().max(job.eps) * self.random.size(-9.0, 0.5);
+        number + self.random.around(size)
+    }
+
     /// Follows the margin of a test, by one number, to where it turns.
-    fn followed(&mut self, job: &Job, site: Site) -> Option<Job> {
-        let start = asked_of(job, site)?;
+    fn followed(&mut self, job: &Job, aim: Aim) -> Option<Job> {
+        let start = asked_of(job, aim)?;
         let slot = self.random.below(job.source.len() + 2);
         let (mut at, mut margin) = (value(job, slot), start.margin);
         let mut step = at.abs().max(1e-3) * self.random.size(-9.0, -1.0) * self.random.sign();
         for _ in 0..PROBES {
             let other = with(job, slot, at + step);
-            let Some(asked) = asked_of(&other, site) else {
+            let Some(asked) = asked_of(&other, aim) else {
                 step /= 4.0;
                 continue;
             };
@@ -165,21 +191,25 @@ impl Steering {
                 return Some(other);
             }
             // The secant through the last two margins, a little beyond.
-            let aim = -asked.margin * step / (asked.margin - margin) * 1.1;
+            let beyond = -asked.margin * step / (asked.margin - margin) * 1.1;
             (at, margin) = (at + step, asked.margin);
-            step = if aim.is_finite() { aim } else { 2.0 * step };
+            step = if beyond.is_finite() {
+                beyond
+            } else {
+                2.0 * step
+            };
         }
         None
     }
 
     /// Halves the bit patterns down to the two neighbours between which the answer changes, and
     /// goes two units to either side.
-    fn between(&mut self, job: &Job, slot: usize, far: f64, site: Site) -> Vec<Job> {
-        let answer = answer_of(job, site);
+    fn between(&mut self, job: &Job, slot: usize, far: f64, aim: Aim) -> Vec<Job> {
+        let answer = answer_of(job, aim);
         let (mut low, mut high) = (key(value(job, slot)), key(far));
         while low.abs_diff(high) > 1 {
             let middle = low.midpoint(high);
-            if answer_of(&with(job, slot, number(middle)), site) == answer {
+            if answer_of(&with(job, slot, number(middle)), aim) == answer {
                 low = middle;
             } else {
                 high = middle;
@@ -221,13 +251,18 @@ impl Steering {
     }
 }
 
-/// The first asking of a test by a job.
-fn asked_of(job: &Job, site: Site) -> Option<Asked> {
-    path(job).into_iter().find(|asked| asked.site == site)
+/// The first or last asking of a test by a job.
+fn asked_of(job: &Job, aim: Aim) -> Option<Asked> {
+    let mut askings = path(job).into_iter().filter(|asked| asked.site == aim.site);
+    if aim.last {
+        askings.next_back()
+    } else {
+        askings.next()
+    }
 }
 
-fn answer_of(job: &Job, site: Site) -> Option<bool> {
-    asked_of(job, site).map(|asked| asked.answer)
+fn answer_of(job: &Job, aim: Aim) -> Option<bool> {
+    asked_of(job, aim).map(|asked| asked.answer)
 }
 
 fn path(job: &Job) -> Vec<Asked> {
