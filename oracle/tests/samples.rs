@@ -18,9 +18,10 @@ const ELSEWHERE: &[(Site, bool)] = &[
     (Site::NoRoomIndexes, true),
 ];
 
-/// Never reached. An inner join whose second line starts past the end of the first turns back, so
-/// it ends before it. Two candidates lie further apart than ε, or they would be one tangent point.
-const NEVER_ASKED: &[(Site, bool)] = &[(Site::BAtMostOne, false), (Site::SumSmall, true)];
+/// No job is known. Two candidates lie further apart than ε, or they would be one tangent point, and
+/// the ends that they stand for lie ε apart, so the offset is at least half of ε. Rounding counts most
+/// where a circle of about ε meets one 4e7 times as large, and leaves the sum 7 % above its bound.
+const NOT_KNOWN: &[(Site, bool)] = &[(Site::SumSmall, true)];
 
 #[test]
 fn the_sample_jobs_reach_all() {
@@ -36,7 +37,7 @@ fn the_sample_jobs_reach_all() {
         for answer in [false, true] {
             let one = (*site, answer);
             let reached = table.sites[*site as usize][usize::from(answer)] > 0;
-            if !reached && !ELSEWHERE.contains(&one) && !NEVER_ASKED.contains(&one) {
+            if !reached && !ELSEWHERE.contains(&one) && !NOT_KNOWN.contains(&one) {
                 missing.push(format!("{}: {answer}", site.text()));
             }
         }

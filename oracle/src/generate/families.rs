@@ -23,6 +23,7 @@ pub const FAMILIES: &[Family] = &[
     ("far away", far),
     ("slight turns", slight),
     ("turned back by 1e-8", turned_back),
+    ("turned back at the least eps", turned_short),
     ("a small circle on a large one", small_circle),
     ("small rings far out", ring),
     ("odd numbers", odd),
@@ -385,6 +386,22 @@ fn turned_back(random: &mut Random) -> Job {
     }
     let source = vertices.iter().flat_map(|p| [p[0], p[1], 0.0]).collect();
     Job::new(false, offset, 1e-9, source)
+}
+
+/// A line of about the least ε that all but turns back, next to 0. Offset by so much more it is rounded
+/// to another direction, so that the second line can lie past the first one's end with both its ends.
+fn turned_short(random: &mut Random) -> Job {
+    let eps = 1e-9 * random.size(0.0, 0.1);
+    let heading = random.around(3.2);
+    let turn = std::f64::consts::PI + random.sign() * random.size(-8.3, -7.1);
+    let mut at = Vector2::new(random.around(10.0), random.around(10.0)).scale(eps);
+    let mut vertices = vec![[at.x, at.y, 0.0]];
+    for heading in [heading, heading + turn] {
+        at = on_circle(at, eps * random.size(0.0, 0.3), heading);
+        vertices.push([at.x, at.y, 0.0]);
+    }
+    let offset = random.sign() * (0.1 + 0.4 * random.unit());
+    Job::new(false, offset, eps, vertices.concat())
 }
 
 /// An arc of about ε in size at the end of an ordinary one.

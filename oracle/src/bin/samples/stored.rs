@@ -6,6 +6,7 @@
 
 use crate::{edges, jobs};
 use oracle::generate::{FAMILIES, Random, Steering};
+use oracle::newly::newly_accepted;
 use oracle::stage::{Job, Outcome};
 use oracle::text::bits;
 use oracle::traced::{Site, Table, Trace, job as traced_job};
@@ -47,6 +48,10 @@ pub fn write(folder: &Path) -> io::Result<()> {
         println!("{name:44} {:>5}", jobs.len());
     }
     let rows: Vec<Job> = kinds.into_iter().flat_map(|(_, jobs)| jobs).collect();
+    let newly = |job: &&Job| newly_accepted(job, job.run(oracle::job).answer[0]).is_some();
+    println!("{:44} {:>5}", "in all", rows.len());
+    let count = rows.iter().filter(newly).count();
+    println!("{:44} {count:>5}", "of them newly accepted by 2026-02");
     print_reached(&rows);
     let mut input = (rows.len() as u64).to_be_bytes().to_vec();
     let mut output = String::new();
