@@ -79,10 +79,11 @@ fn numbers(layers: &mut [Layer; 7], random: &mut Random) {
     let x = number(random);
     layers[0].hold(&[x], one(x.sqrt()), one(layers::layers_sqrt(x)));
     layers[1].hold(&[x], one(atan(x)), one(layers::layers_atan(x)));
-    let sweep = if random.one_in(2) {
-        x
-    } else {
-        random.around(FRAC_PI_2)
+    // Of a nearly full circle the quarter of the sweep is all but a right angle.
+    let sweep = match random.below(4) {
+        0 | 1 => x,
+        2 => random.around(FRAC_PI_2),
+        _ => random.sign() * (FRAC_PI_2 - random.size(-10.0, 0.0)),
     };
     layers[2].hold(&[sweep], one(tan(sweep)), one(layers::layers_tan(sweep)));
     let (c, p) = (point(random), point(random));
