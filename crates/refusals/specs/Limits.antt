@@ -42,7 +42,7 @@ goodEps ε = inside leastEps mostEps ε
 unfoldable pub numberTests : List PlineVertex → Settings → List Bool
 numberTests vs σ = map (λ v. not (goodVertex v)) vs ++ not (goodOffset (σ .offset)) ∷ not (goodEps (σ .eps)) ∷ []
 
--- two vertices are equal in x and in y, by value: −0 is +0. (The one definition of "repeated".)
+-- two vertices are equal in x and in y, by value: −0 equals +0. (The one definition of "repeated".)
 unfoldable pub repeats : PlineVertex → PlineVertex → Bool
 repeats a b = eq (a .x) (b .x) and eq (a .y) (b .y)
 
