@@ -1,7 +1,8 @@
 //! The job of 01 section 1, as 02's 2026-02 amends it, with its tests recorded.
 
 use super::joins::Setting;
-use super::moves::Drawing;
+use super::moves::{Drawing, Walk};
+use super::segments::Segment;
 use super::{Event, Site, Trace};
 use crate::polyline::{PlineSource, Polyline};
 use crate::stage::{Answer, Job, Lent};
@@ -10,6 +11,13 @@ use crate::stage::{Answer, Job, Lent};
 enum Result {
     Refused(u32, usize),
     Drawn(Drawing),
+}
+
+/// What is left to be walked, where nothing answers before.
+struct Work {
+    source: Polyline,
+    set: Setting,
+    segments: Vec<Segment>,
 }
 
 /// The traced job as a stage of its own.
@@ -83,56 +91,74 @@ impl Trace {
     }
 
     fn worked(&mut self, job: &Job) -> Result {
+        match self.begun(job) {
+            Ok(work) => self.drawn(&work),
+            Err(answered) => answered,
+        }
+    }
+
+    /// The walk of a job, unless it is answered without one.
+    pub(super) fn walked(&mut self, job: &Job) -> Option<Walk> {
+        let work = self.begun(job).ok()?;
+        Some(self.walk(work.set, &work.source, &work.segments))
+    }
+
+    /// What there is to be walked, or what answers the job without that.
+    fn begun(&mut self, job: &Job) -> std::result::Result<Work, Result> {
         let v = job.source.len() / 3;
         if self.ask(Site::Ragged, !job.source.len().is_multiple_of(3)) {
-            return Result::Refused(1, 0);
+            return Err(Result::Refused(1, 0));
         }
         if self.ask(Site::TooMany, v > 4096) {
-            return Result::Refused(2, 0);
+            return Err(Result::Refused(2, 0));
         }
         if let Some(place) = self.bad_number(job) {
-            return Result::Refused(3, place);
+            return Err(Result::Refused(3, place));
         }
         if self.ask(Site::Few, v < 2) {
-            return Result::Drawn(Drawing::empty());
+            return Err(Result::Drawn(Drawing::empty()));
         }
         let need = 2 * job.segments();
         if self.ask(Site::NoRoomVertices, job.room[0] / 3 < need)
             || self.ask(Site::NoRoomFlags, job.room[1] < need)
             || self.ask(Site::NoRoomIndexes, job.room[2] < need)
         {
-            return Result::Refused(4, 0);
+            return Err(Result::Refused(4, 0));
         }
         let source = job.polyline();
         if self.equals(Site::ZeroOffset, job.offset, 0.0) {
             self.mark(Event::Copied);
-            return Result::Drawn(Drawing {
+            return Err(Result::Drawn(Drawing {
                 vertices: job.source.chunks(3).map(|n| [n[0], n[1], n[2]]).collect(),
                 flags: vec![false; job.segments()],
                 closed: job.closed,
-            });
+            }));
         }
         for (i, (v1, v2)) in source.iter_segments().enumerate() {
             if self.equals(Site::RepeatedX, v1.x, v2.x) && self.equals(Site::RepeatedY, v1.y, v2.y)
             {
-                return Result::Refused(5, i);
+                return Err(Result::Refused(5, i));
             }
         }
-        self.drawn(job, &source)
-    }
-
-    fn drawn(&mut self, job: &Job, source: &Polyline) -> Result {
+        let segments = self.segments(&source, job.offset);
+        if segments.len() == 1 && segments[0].is_collapsed() {
+            self.mark(Event::LoneCollapsed);
+            return Err(Result::Drawn(Drawing::empty()));
+        }
         let set = Setting {
             offset: job.offset,
             eps: job.eps,
         };
-        let segments = self.segments(source, job.offset);
-        if segments.len() == 1 && segments[0].is_collapsed() {
-            self.mark(Event::LoneCollapsed);
-            return Result::Drawn(Drawing::empty());
-        }
-        let walk = self.walk(set, source, &segments);
-        let drawing = self.draw(set, &walk, job.closed);
+        Ok(Work {
+            source,
+            set,
+            segments,
+        })
+    }
+
+    fn drawn(&mut self, work: &Work) -> Result {
+        let walk = self.walk(work.set, &work.source, &work.segments);
+        let drawing = self.draw(work.set, &walk, work.source.is_closed);
         for number in drawing.vertices.as_flattened() {
             if !self.ask(Site::Finite, number.is_finite()) {
                 return Result::Refused(6, 0);

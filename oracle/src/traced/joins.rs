@@ -2,7 +2,7 @@
 
 use super::arithmetic::{Candidates, Lines};
 use super::segments::{Arc, Kind, Segment, pair};
-use super::{Event, Pair, Site, Trace};
+use super::{Event, Pair, Rule, Site, Trace};
 use crate::core::math::{Vector2, dist_squared, point_from_parametric};
 
 /// Where the span before ends, where the span after starts, and what leads from one to the other.
@@ -10,19 +10,25 @@ use crate::core::math::{Vector2, dist_squared, point_from_parametric};
 pub(super) struct Join {
     pub end: Vector2,
     pub end_param: f64,
+    /// By which rule an arc before was trimmed.
+    pub end_rule: Option<Rule>,
     pub start: Vector2,
     pub start_param: f64,
+    /// By which rule an arc after was trimmed.
+    pub start_rule: Option<Rule>,
     pub bulge: f64,
     pub invalid: bool,
 }
 
 impl Join {
-    fn whole(end: Vector2, start: Vector2) -> Self {
+    pub fn whole(end: Vector2, start: Vector2) -> Self {
         Self {
             end,
             end_param: 1.0,
+            end_rule: None,
             start,
             start_param: 0.0,
+            start_rule: None,
             bulge: 0.0,
             invalid: false,
         }
@@ -36,8 +42,27 @@ impl Join {
     }
 }
 
-/// A point of both segments, with its parameter on each.
-type Meeting = (Vector2, f64, f64);
+/// The place of a point on a segment: its parameter and, on an arc, the rule that granted it.
+#[derive(Debug, Copy, Clone)]
+pub(super) struct Granted {
+    pub param: f64,
+    pub rule: Option<Rule>,
+}
+
+impl Granted {
+    /// A place on a line, where no rule is asked for.
+    fn on_line(param: f64) -> Self {
+        Self { param, rule: None }
+    }
+
+    fn by(rule: Rule, param: f64) -> Self {
+        let rule = Some(rule);
+        Self { param, rule }
+    }
+}
+
+/// A point of both segments, with its place on each.
+type Meeting = (Vector2, Granted, Granted);
 
 /// Offset and ε of the job at hand.
 #[derive(Debug, Copy, Clone)]
@@ -83,11 +108,13 @@ impl Trace {
             return join;
         }
         match self.meeting(set, current, next, shared) {
-            Some((point, end_param, start_param)) => {
+            Some((point, on_current, on_next)) => {
                 self.mark(Event::Trimmed);
                 Join {
-                    end_param,
-                    start_param,
+                    end_param: on_current.param,
+                    end_rule: on_current.rule,
+                    start_param: on_next.param,
+                    start_rule: on_next.rule,
                     ..Join::whole(point, point)
                 }
             }
@@ -226,7 +253,7 @@ impl Trace {
                 let param = self.param_of(next, current[1], set.eps);
                 let usable = self.usable_line_param(set, param, next);
                 self.mark_if(usable.is_none(), Event::Missed);
-                usable.map(|param| (current[1], 1.0, param))
+                usable.map(|param| (current[1], Granted::on_line(1.0), Granted::on_line(param)))
             }
         }
     }
@@ -241,10 +268,10 @@ impl Trace {
             !low[0] && self.above(Site::TOverOne, t, 1.0),
             !low[1] && self.above(Site::SOverOne, s, 1.0),
         ];
-        let param = |line: usize, own: f64| match (low[line], high[line]) {
-            (true, _) => 0.0,
-            (_, true) => 1.0,
-            _ => own,
+        let place = |line: usize, own: f64| match (low[line], high[line]) {
+            (true, _) => Granted::on_line(0.0),
+            (_, true) => Granted::on_line(1.0),
+            _ => Granted::on_line(own),
         };
         let (event, point) = match (low[0], high[0], low[1], high[1]) {
             (true, ..) => (Event::PointAtCurrentStart, current[0]),
@@ -257,7 +284,7 @@ impl Trace {
             }
         };
         self.mark(event);
-        (point, param(0, t), param(1, s))
+        (point, place(0, t), place(1, s))
     }
 
     pub(super) fn usable_line_param(
@@ -293,15 +320,15 @@ impl Trace {
         set: Setting,
         arc: &Arc,
         point: Vector2,
-    ) -> Option<f64> {
+    ) -> Option<Granted> {
         let [start, end] = arc.ends;
         if self.near([Site::ArcStartX, Site::ArcStartY], point, start, set.eps) {
             self.mark(Event::ArcStartMatched);
-            return Some(0.0);
+            return Some(Granted::by(Rule::StartMatched, 0.0));
         }
         if self.near([Site::ArcEndX, Site::ArcEndY], point, end, set.eps) {
             self.mark(Event::ArcEndMatched);
-            return Some(1.0);
+            return Some(Granted::by(Rule::EndMatched, 1.0));
         }
         let at = self.angle(arc.center, point);
         let backward = self.below(Site::ArcTurns, arc.sweep, 0.0);
@@ -317,7 +344,7 @@ impl Trace {
             } else {
                 Event::ArcInside
             });
-            return Some(traveled / sweep);
+            return Some(Granted::by(Rule::Inside, traveled / sweep));
         }
         let past = arc.radius * (traveled - sweep);
         if self.above(Site::PastTooFar, past, set.eps) {
@@ -325,7 +352,7 @@ impl Trace {
             return None;
         }
         self.mark(Event::ArcPast);
-        Some(1.0)
+        Some(Granted::by(Rule::PastEnd, 1.0))
     }
 
     fn line_arc(
@@ -378,7 +405,7 @@ impl Trace {
         };
         self.mark(event);
         let on_arc = self.usable_arc_param(set, arc, point)?;
-        Some((point, on_line, on_arc))
+        Some((point, Granted::on_line(on_line), on_arc))
     }
 
     fn arc_arc(

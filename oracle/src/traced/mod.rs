@@ -9,10 +9,12 @@ mod job;
 mod joins;
 mod moves;
 pub mod parts;
+mod rules;
 mod segments;
 mod sites;
 
 pub use job::{job, stage};
+pub use rules::Rule;
 pub use sites::{EXPECTED, Event, Pair, Site};
 
 /// A test, its answer, and how far the two numbers compared lie apart.

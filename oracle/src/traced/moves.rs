@@ -2,7 +2,7 @@
 
 use super::joins::{Join, Setting};
 use super::segments::Segment;
-use super::{Event, Site, Trace};
+use super::{Event, Rule, Site, Trace};
 use crate::core::math::Vector2;
 use crate::polyline::{PlineSource, PlineVertex, Polyline};
 
@@ -10,13 +10,40 @@ pub(super) struct Move {
     end: Vector2,
     bulge: f64,
     invalid: bool,
-    is_span: bool,
+    /// The rules at the start and the end of a span; a connector has no such pair.
+    pub span: Option<Rules>,
 }
 
-/// Where the walk starts, and its moves. The last move of a closed walk ends where it starts.
+/// By which rule a span starts, and by which it ends, where a trimmed arc does.
+pub(super) type Rules = [Option<Rule>; 2];
+
+/// Where the walk starts, its moves, and its joins in the order in which they are made: the closing
+/// one first. The last move of a closed walk ends where it starts.
 pub(super) struct Walk {
     start: Vector2,
-    moves: Vec<Move>,
+    pub moves: Vec<Move>,
+    pub joins: Vec<Join>,
+}
+
+/// Where a span starts on its segment, and by which rule.
+#[derive(Copy, Clone)]
+struct SpanStart {
+    param: f64,
+    rule: Option<Rule>,
+}
+
+impl SpanStart {
+    const WHOLE: Self = Self {
+        param: 0.0,
+        rule: None,
+    };
+
+    fn after(join: &Join) -> Self {
+        Self {
+            param: join.start_param,
+            rule: join.start_rule,
+        }
+    }
 }
 
 pub(super) struct Drawing {
@@ -42,19 +69,21 @@ impl Trace {
             .is_closed
             .then(|| self.join(set, &segments[last], &segments[0], source.at(0).pos()));
         let start = closing.map_or(segments[0].ends[0], |join| join.start);
-        let mut from = closing.map_or(0.0, |join| join.start_param);
+        let mut from = closing.map_or(SpanStart::WHOLE, |join| SpanStart::after(&join));
         let mut moves = Vec::new();
+        let mut joins = Vec::from_iter(closing);
         for i in 0..last {
             let shared = source.at(i + 1).pos();
             let join = self.join(set, &segments[i], &segments[i + 1], shared);
             moves.push(self.span(&segments[i], from, &join, join.end));
             moves.push(connector(&join, join.start));
-            from = join.start_param;
+            from = SpanStart::after(&join);
+            joins.push(join);
         }
         match closing {
             None => {
                 let end = segments[last].ends[1];
-                moves.push(self.span(&segments[last], from, &whole_end(end), end));
+                moves.push(self.span(&segments[last], from, &Join::whole(end, end), end));
             }
             Some(join) => {
                 let sites = [Site::ClosingMeetsX, Site::ClosingMeetsY];
@@ -68,16 +97,20 @@ impl Trace {
                 }
             }
         }
-        Walk { start, moves }
+        Walk {
+            start,
+            moves,
+            joins,
+        }
     }
 
     /// The part of a segment from `from` up to a join, as a move to `end`.
-    fn span(&mut self, segment: &Segment, from: f64, join: &Join, end: Vector2) -> Move {
+    fn span(&mut self, segment: &Segment, from: SpanStart, join: &Join, end: Vector2) -> Move {
         Move {
             end,
-            bulge: segment.bulge(from, join.end_param),
-            invalid: self.span_is_invalid(segment, from, join.end_param),
-            is_span: true,
+            bulge: segment.bulge(from.param, join.end_param),
+            invalid: self.span_is_invalid(segment, from.param, join.end_param),
+            span: Some([from.rule, join.end_rule]),
         }
     }
 
@@ -132,24 +165,12 @@ fn connector(join: &Join, end: Vector2) -> Move {
         end,
         bulge: join.bulge,
         invalid: join.invalid,
-        is_span: false,
-    }
-}
-
-/// A segment taken to its end.
-fn whole_end(end: Vector2) -> Join {
-    Join {
-        end,
-        end_param: 1.0,
-        start: end,
-        start_param: 0.0,
-        bulge: 0.0,
-        invalid: false,
+        span: None,
     }
 }
 
 fn fate(step: &Move, dropped: bool) -> Event {
-    match (step.is_span, dropped, step.invalid) {
+    match (step.span.is_some(), dropped, step.invalid) {
         (true, false, false) => Event::SpanKept,
         (true, false, true) => Event::SpanFlagged,
         (true, true, false) => Event::SpanDropped,

@@ -2,9 +2,10 @@
 
 use super::joins::{Join, Setting};
 use super::segments::{Arc, Kind, Segment};
-use super::{Event, Trace};
+use super::{Event, Pair, Rule, Trace};
 use crate::core::math::Vector2;
 use crate::polyline::PlineVertex;
+use crate::stage::Job;
 
 /// Three vertices of a job: two segments and the join between them.
 #[derive(Debug, Copy, Clone)]
@@ -23,8 +24,13 @@ pub enum Side {
 }
 
 /// The class of a join with the cause that led to it, by 000's names.
+#[derive(Debug)]
 pub struct Joined {
+    pub pair: Pair,
     pub cause: &'static str,
+    /// The precise cause: 0 coincident, 1 met, 2 outer turn, 3 reversal, 4 collapsed side, 5 no
+    /// meeting, 6 candidates missed, 7 zero tangent, 8 same direction.
+    pub number: u32,
     pub class: &'static str,
     pub end: Vector2,
     pub end_param: f64,
@@ -32,37 +38,71 @@ pub struct Joined {
     pub start_param: f64,
     pub bulge: f64,
     pub invalid: bool,
+    /// Of the current side and of the next one.
+    pub rules: [Option<Rule>; 2],
 }
 
-/// What two sides come to: the point and both parameters, or the name of the way they missed.
-pub type Met = Result<(Vector2, f64, f64), &'static str>;
+impl Joined {
+    /// 000's record: both points, each with its parameter, and the connector's bulge.
+    pub fn numbers(&self) -> [f64; 7] {
+        [
+            self.end.x,
+            self.end.y,
+            self.end_param,
+            self.start.x,
+            self.start.y,
+            self.start_param,
+            self.bulge,
+        ]
+    }
+}
 
-const OUTCOMES: &[(Event, &str, &str)] = &[
-    (Event::Coincident, "coincident", "Coincident"),
-    (Event::ZeroIncoming, "zero_tangent", "InvalidDegenerateGap"),
-    (Event::ZeroOutgoing, "zero_tangent", "InvalidDegenerateGap"),
+/// Where two sides meet; parameters and rules of the current side and of the next one.
+#[derive(Debug, Copy, Clone)]
+pub struct Meets {
+    pub at: Vector2,
+    pub params: [f64; 2],
+    pub rules: [Option<Rule>; 2],
+}
+
+/// What two sides come to: where they meet, or the name of the way they missed.
+pub type Met = Result<Meets, &'static str>;
+
+/// What a join comes to: its cause, the precise cause's number, and its class.
+type Outcome = (&'static str, u32, &'static str);
+
+const OUTCOMES: &[(Event, Outcome)] = &[
+    (Event::Coincident, ("coincident", 0, "Coincident")),
+    (Event::Trimmed, ("inner", 1, "Trimmed")),
+    (Event::OuterRound, ("outer", 2, "OuterRound")),
+    (Event::ReversalRound, ("reversal", 3, "ReversalRound")),
+    (Event::CollapsedCurrent, ("inner", 4, "InvalidInnerGap")),
+    (Event::CollapsedNext, ("inner", 4, "InvalidInnerGap")),
+    (Event::CollapsedBoth, ("inner", 4, "InvalidInnerGap")),
+    (Event::NoMeeting, ("inner", 5, "InvalidInnerGap")),
+    (Event::Missed, ("inner", 6, "InvalidInnerGap")),
+    (
+        Event::ZeroIncoming,
+        ("zero_tangent", 7, "InvalidDegenerateGap"),
+    ),
+    (
+        Event::ZeroOutgoing,
+        ("zero_tangent", 7, "InvalidDegenerateGap"),
+    ),
     (
         Event::SameDirection,
-        "same_direction",
-        "InvalidDegenerateGap",
+        ("same_direction", 8, "InvalidDegenerateGap"),
     ),
-    (Event::ReversalRound, "reversal", "ReversalRound"),
-    (Event::OuterRound, "outer", "OuterRound"),
-    (Event::Trimmed, "inner", "Trimmed"),
-    (Event::NoMeeting, "inner", "InvalidInnerGap"),
-    (Event::Missed, "inner", "InvalidInnerGap"),
-    (Event::CollapsedCurrent, "inner", "InvalidInnerGap"),
-    (Event::CollapsedNext, "inner", "InvalidInnerGap"),
-    (Event::CollapsedBoth, "inner", "InvalidInnerGap"),
 ];
 
-const ARC_WAYS: &[(Event, &str)] = &[
-    (Event::ArcStartMatched, "start"),
-    (Event::ArcEndMatched, "end"),
-    (Event::ArcInside, "inside"),
-    (Event::ArcNan, "inside"),
-    (Event::ArcPast, "past"),
-    (Event::ArcMissed, "off"),
+/// What comes of asking for a point on an arc.
+const ARC_WAYS: &[Event] = &[
+    Event::ArcStartMatched,
+    Event::ArcEndMatched,
+    Event::ArcInside,
+    Event::ArcNan,
+    Event::ArcPast,
+    Event::ArcMissed,
 ];
 
 fn vector(numbers: &[f64]) -> Vector2 {
@@ -147,17 +187,16 @@ impl Fragment {
             eps: self.eps,
         };
         let join = trace.join(set, &current, &next, self.vertices[1].pos());
-        let (_, cause, class) = *OUTCOMES
-            .iter()
-            .find(|(event, ..)| trace.happened(*event))
-            .expect("each join has one outcome");
-        joined(cause, class, join)
+        let outcome = trace.outcomes().next().expect("each join has one outcome");
+        joined(outcome, &join)
     }
 }
 
-fn joined(cause: &'static str, class: &'static str, join: Join) -> Joined {
+fn joined((pair, (cause, number, class)): (Pair, Outcome), join: &Join) -> Joined {
     Joined {
+        pair,
         cause,
+        number,
         class,
         end: join.end,
         end_param: join.end_param,
@@ -165,7 +204,40 @@ fn joined(cause: &'static str, class: &'static str, join: Join) -> Joined {
         start_param: join.start_param,
         bulge: join.bulge,
         invalid: join.invalid,
+        rules: [join.end_rule, join.start_rule],
     }
+}
+
+/// Each join of a job's walk with its three vertices: that after segment 0, and so on, a closed job's
+/// closing one last. None where the job is answered without a walk.
+pub fn joins(job: &Job) -> Option<Vec<(Fragment, Joined)>> {
+    let mut trace = Trace::new();
+    let walk = trace.walked(job)?;
+    let outcomes = trace.outcomes().zip(&walk.joins);
+    let mut joins: Vec<Joined> = outcomes.map(|(told, join)| joined(told, join)).collect();
+    if job.closed {
+        // It is made first.
+        joins.rotate_left(1);
+    }
+    Some(fragments(job).zip(joins).collect())
+}
+
+/// Each three vertices in a row; of a closed job round to the first two.
+fn fragments(job: &Job) -> impl Iterator<Item = Fragment> {
+    let vertices = job.polyline().vertices;
+    let (offset, eps) = (job.offset, job.eps);
+    (0..vertices.len()).map(move |first| Fragment {
+        vertices: [0, 1, 2].map(|further| vertices[(first + further) % vertices.len()]),
+        offset,
+        eps,
+    })
+}
+
+/// For each span of a job's walk the rules at its start and at its end. None where the job is
+/// answered without a walk.
+pub fn spans(job: &Job) -> Option<Vec<[Option<Rule>; 2]>> {
+    let walk = Trace::new().walked(job)?;
+    Some(walk.moves.iter().filter_map(|step| step.span).collect())
 }
 
 /// The directions at both ends of an offset segment.
@@ -187,15 +259,11 @@ pub fn line_param(param: f64, line: [Vector2; 2], eps: f64) -> Option<f64> {
     Trace::new().usable_line_param(Setting { offset: 1.0, eps }, param, line)
 }
 
-/// The way in which a point of the arc's circle is let in or missed, and its parameter.
-pub fn arc_param(numbers: &[f64; 9], point: Vector2, eps: f64) -> (&'static str, Option<f64>) {
-    let mut trace = Trace::new();
-    let param = trace.usable_arc_param(Setting { offset: 1.0, eps }, &arc(numbers), point);
-    let (_, way) = ARC_WAYS
-        .iter()
-        .find(|(event, _)| trace.happened(*event))
-        .expect("each point comes in by one way");
-    (way, param)
+/// The parameter of a point of the arc's circle and the rule that grants it, unless it is missed.
+pub fn arc_param(numbers: &[f64; 9], point: Vector2, eps: f64) -> Option<(f64, Rule)> {
+    let set = Setting { offset: 1.0, eps };
+    let granted = Trace::new().usable_arc_param(set, &arc(numbers), point)?;
+    granted.rule.map(|rule| (granted.param, rule))
 }
 
 pub fn equally_near(first: f64, second: f64, eps: f64) -> bool {
@@ -213,6 +281,11 @@ pub fn meeting(current: &Side, next: &Side, shared: Vector2, eps: f64) -> (Met, 
     let mut trace = Trace::new();
     let set = Setting { offset: 1.0, eps };
     let met = trace.meeting(set, &current.segment(), &next.segment(), shared);
+    let met = met.map(|(at, on_current, on_next)| Meets {
+        at,
+        params: [on_current.param, on_next.param],
+        rules: [on_current.rule, on_next.rule],
+    });
     let met = met.ok_or(if trace.happened(Event::NoMeeting) {
         "none"
     } else {
@@ -226,9 +299,17 @@ impl Trace {
     pub fn asked_arc(&self) -> bool {
         let last = self.events.iter().rev().find_map(|(_, event)| match event {
             Event::ParamTooLow | Event::ParamTooHigh => Some(false),
-            _ => ARC_WAYS.iter().any(|(way, _)| way == event).then_some(true),
+            _ => ARC_WAYS.contains(event).then_some(true),
         });
         last.unwrap_or(false)
+    }
+
+    /// What each join came to, in the order in which they were made.
+    fn outcomes(&self) -> impl Iterator<Item = (Pair, Outcome)> {
+        self.events.iter().filter_map(|(pair, event)| {
+            let (_, outcome) = OUTCOMES.iter().find(|(known, _)| known == event)?;
+            Some((*pair, *outcome))
+        })
     }
 
     fn happened(&self, event: Event) -> bool {

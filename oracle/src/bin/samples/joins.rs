@@ -8,7 +8,7 @@ use oracle::polyline::PlineVertex;
 use oracle::stage::Job;
 use oracle::text::bits;
 use oracle::traced::parts::{
-    Fragment, Joined, Met, Side, arc_param, equally_near, line_param, meeting, round, span,
+    Fragment, Joined, Meets, Met, Side, arc_param, equally_near, line_param, meeting, round, span,
     tangents,
 };
 use oracle::traced::{Table, Trace};
@@ -200,8 +200,9 @@ fn arc_params(rows: &mut Rows) {
 }
 
 fn arc_way(arc: &[f64; 9], at: [f64; 2], eps: f64) -> String {
-    let (way, param) = arc_param(arc, point(&at), eps);
-    format!("{way} {}", param.map_or("missed".to_string(), bits))
+    arc_param(arc, point(&at), eps).map_or("off missed".to_string(), |(param, rule)| {
+        named(rule.name(), &[param])
+    })
 }
 
 fn distances(rows: &mut Rows) {
@@ -257,7 +258,7 @@ fn meetings(rows: &mut Rows) {
 
 fn met_text(met: Met) -> String {
     match met {
-        Ok((at, on_current, on_next)) => named("at", &[at.x, at.y, on_current, on_next]),
+        Ok(Meets { at, params, .. }) => named("at", &[at.x, at.y, params[0], params[1]]),
         Err(way) => way.to_string(),
     }
 }
