@@ -1,5 +1,6 @@
 pub mod Bound
 pub mod Settling
 pub mod Made
+pub mod Rules
 pub mod Samples
 pub mod Seen

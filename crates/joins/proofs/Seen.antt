@@ -15,13 +15,16 @@ use Rattle.segments.specs.InnerSteps.{fullArc, fullSeg}
 use Rattle.meetings.specs.declared.Met.{Met}
 use Rattle.meetings.specs.declared.SeenArc.{SeenArc}
 use Rattle.meetings.specs.declared.SeenMet.{SeenMet}
+use Rattle.meetings.specs.Rules.{ruled}
 use Rattle.meetings.specs.InnerSteps.{notSeen, startAngle, angled, Shows}
 use Rattle.joins.specs.declared.JoinTurn.{JoinTurn}
 use Rattle.joins.specs.declared.JoinTurn.the-variants.{Coincident, ZeroTangent, SameDirection, Reversal, Outer, Inner}
 use Rattle.joins.specs.declared.JoinBoundary.{JoinBoundary}
 use Rattle.joins.specs.declared.Joined.{Joined}
 use Rattle.joins.specs.Join.{turnOf, trimmedBy, innerJoin, joinOf}
-use Rattle.joins.specs.InnerSteps.{settledBy, orElseJoin, seenArc, seenSeg, joined, Joins}
+use Rattle.joins.specs.Rules.{ruledBoundary, ruledJoin}
+use Rattle.joins.specs.InnerSteps.{settledBy, orElseJoin, cutBy, seenArc, seenSeg, joined, Joins}
+use Rattle.joins.proofs.Rules.{ruled-cut, settled-ruled}
 use Rattle.joins.proofs.Settling.{settled-or-inner}
 
 -- ---- what is not known is worked out
@@ -42,11 +45,16 @@ seg-unseen (Collapsed a) = refl
 pub unseen-joins : (g : CarriedSeg) {r : Joined} {b b′ : JoinBoundary} → r ≡ joined b notSeen → b ≡ b′ → Joins r b′ g
 unseen-joins g h e = record { boundary = ap (λ (r : Joined). r .boundary) h ∙ e; seen = ap (λ (r : Joined). seenSeg (r .seen) g) h ∙ seg-unseen g }
 
-pub arc-joins : (a : CarriedArc) (meet : RawOffsetArc → Met) (end : Vector2) {u : SeenArc} {shown : SeenMet} {b : JoinBoundary}
-    → u ≡ seenArc notSeen a → Shows shown (meet (angled u)) u → b ≡ trimmedBy (shown .met) end (a .start) → Joins (joined b (shown .seen)) (trimmedBy (meet (fullArc a)) end (a .start)) (Arc a)
-arc-joins a meet end {u} {shown} hu h e =
+pub arc-joins : (a : CarriedArc) (g : RawOffsetSeg) (ε : Float) (meet : RawOffsetArc → Met) (end : Vector2) {u : SeenArc} {shown : SeenMet} {b : JoinBoundary}
+    → u ≡ seenArc notSeen a → Shows shown (ruled g (Full.Arc (angled u)) ε (meet (angled u))) u → b ≡ cutBy (shown .met) end (a .start)
+    → Joins (joined b (shown .seen)) (ruledBoundary g (fullSeg (Arc a)) ε (trimmedBy (meet (fullArc a)) end (a .start))) (Arc a)
+arc-joins a g ε meet end {u} {shown} hu h e =
     let known = rw hu at h in
-    record { boundary = e ∙ ap (λ (m : Met). trimmedBy m end (a .start)) (known .met ∙ ap meet (arc-unseen a)); seen = ap Full.Arc (arc-seen a (shown .seen) (known .seen)) }
+    let met = known .met ∙ ap (λ (x : RawOffsetArc). ruled g (Full.Arc x) ε (meet x)) (arc-unseen a) in
+    record {
+      boundary = e ∙ ap (λ (m : Met). cutBy m end (a .start)) met ∙ ruled-cut g (fullSeg (Arc a)) ε (meet (fullArc a)) end (a .start);
+      seen = ap Full.Arc (arc-seen a (shown .seen) (known .seen));
+    }
 
 -- ---- only an inner join looks at the start angle
 module _ (s : Float) where
@@ -73,7 +81,12 @@ module _ (s : Float) where
   settled-seen Outer g h shared σ = rw (end-seen g)
   settled-seen Inner g h shared σ = refl
 
-  pub join-seen : (g : CarriedSeg) (h : RawOffsetSeg) (shared : Vector2) (σ : Settings)
+  plain-seen : (g : CarriedSeg) (h : RawOffsetSeg) (shared : Vector2) (σ : Settings)
       → joinOf (seenSeg s g) h shared σ ≡ orElseJoin (settledBy (turnOf (fullSeg g) h σ) (fullSeg g) h shared σ) (innerJoin (seenSeg s g) h shared (σ .eps))
   unfolding joinOf
-  join-seen g h shared σ = settled-or-inner (turnOf (seenSeg s g) h σ) (seenSeg s g) h shared σ ∙ rw (turn-seen g h σ, settled-seen (turnOf (fullSeg g) h σ) g h shared σ)
+  plain-seen g h shared σ = settled-or-inner (turnOf (seenSeg s g) h σ) (seenSeg s g) h shared σ ∙ rw (turn-seen g h σ, settled-seen (turnOf (fullSeg g) h σ) g h shared σ)
+
+  pub join-seen : (g : CarriedSeg) (h : RawOffsetSeg) (shared : Vector2) (σ : Settings)
+      → ruledJoin (seenSeg s g) h shared σ
+      ≡ orElseJoin (settledBy (turnOf (fullSeg g) h σ) (fullSeg g) h shared σ) (ruledBoundary (seenSeg s g) h (σ .eps) (innerJoin (seenSeg s g) h shared (σ .eps)))
+  join-seen g h shared σ = ap (ruledBoundary (seenSeg s g) h (σ .eps)) (plain-seen g h shared σ) ∙ settled-ruled (turnOf (fullSeg g) h σ) (fullSeg g) h (seenSeg s g) h shared σ (σ .eps) _

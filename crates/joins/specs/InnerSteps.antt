@@ -14,6 +14,9 @@ use Rattle.segments.specs.declared.CarriedArc.{CarriedArc}
 use Rattle.segments.specs.declared.CarriedSeg.{CarriedSeg}
 use Rattle.segments.specs.declared.CarriedSeg.the-variants.{Line, Arc, Collapsed}
 use Rattle.segments.specs.InnerSteps.{fullSeg}
+use Rattle.meetings.specs.declared.Meeting.{Meeting}
+use Rattle.meetings.specs.declared.Met.{Met}
+use Rattle.meetings.specs.declared.Met.the-variants.{At, NoMeeting, CandidatesMissed}
 use Rattle.meetings.specs.declared.SeenArc.{SeenArc}
 use Rattle.meetings.specs.InnerSteps.{angled}
 use Rattle.joins.specs.declared.Joined.{Joined}
@@ -26,7 +29,9 @@ use Rattle.joins.specs.declared.JoinCause.the-variants as Cause
 use Rattle.joins.specs.declared.JoinBoundary.{JoinBoundary}
 use Rattle.joins.specs.declared.Settled.{Settled}
 use Rattle.joins.specs.declared.Settled.the-variants as Settled
+use Rattle.joins.specs.Boundary.{straight, trimmed}
 use Rattle.joins.specs.Join.{joinBy}
+use Rattle.joins.specs.Rules.{telling}
 
 -- the last two tests of `tangentTurn`, by the numbers that they look at
 unfoldable pub lastTurn : (turn alignment incomingLenSq outgoingLenSq offset : Float) → JoinTurn
@@ -47,6 +52,15 @@ settledBy Inner current next shared σ = Settled.Inner
 abbrev pub orElseJoin : Settled → JoinBoundary → JoinBoundary
 orElseJoin (Settled.Boundary b) inner = b
 orElseJoin Settled.Inner inner = inner
+
+-- ---- a boundary made of a meeting, with the rules that the meeting tells
+abbrev pub cutAt : Meeting → JoinBoundary
+cutAt m = telling (m .«current_rule») (m .«next_rule») (trimmed (m .point) (m .«current_param») (m .«next_param»))
+
+abbrev pub cutBy : Met → Vector2 → Vector2 → JoinBoundary
+cutBy (At m) a b = cutAt m
+cutBy NoMeeting a b = straight Cause.NoMeeting a b
+cutBy CandidatesMissed a b = straight Cause.CandidatesMissed a b
 
 -- ---- a carried segment, with its start angle as it was seen, if it is an arc
 abbrev pub seenArc : Float → CarriedArc → SeenArc

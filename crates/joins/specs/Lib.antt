@@ -1,4 +1,5 @@
 pub mod Boundary
 pub mod Connector
 pub mod Join
+pub mod Rules
 pub mod InnerSteps

@@ -4,13 +4,16 @@ ghost use lib.Ieee.{le};
 ghost use Rattle.floats.specs.Choice.{_or_};
 ghost use Rattle.segments.specs.declared.RawOffsetSeg.the-variants.{Line, Arc};
 ghost use Rattle.joins.specs.declared.JoinCause.the-variants.{CollapsedSide};
-ghost use Rattle.joins.specs.Boundary.{connected, straight, trimmed};
+ghost use Rattle.joins.specs.Boundary.{connected, straight};
+ghost use Rattle.joins.specs.Rules.{ruledBoundary, ruledJoin, forgotten};
 ghost use Rattle.joins.specs.InnerSteps.{classOf, isGap};
 ghost use Rattle.joins.specs.Connector.{clampCos, clampSin, bulgeSize, connectorBulge};
-ghost use Rattle.joins.specs.Join.{tangentTurn, turnOf, trimmedBy, innerJoin, joinOf};
-ghost use Rattle.joins.specs.InnerSteps.{lastTurn, settledBy, joined, seenArc, seenSeg, Joins};
+ghost use Rattle.joins.specs.Join.{tangentTurn, turnOf, innerJoin};
+ghost use Rattle.joins.specs.InnerSteps.{lastTurn, settledBy, cutAt, cutBy, joined, seenArc, seenSeg, Joins};
 ghost use Rattle.segments.specs.InnerSteps.{fullSeg, Marked};
 ghost use Rattle.meetings.specs.InnerSteps.{notSeen, angled};
+use meetings::ArcRule;
+use meetings::Meeting;
 use meetings::Met;
 use meetings::SeenArc;
 use segments::CarriedArc;
@@ -69,8 +72,12 @@ impl JoinCause {
     }
 }
 
+// Where two spans end and start, and why. Where they met, the rule by which each let the point in, if it
+// is an arc.
 pub struct JoinBoundary {
     pub cause: JoinCause,
+    pub current_rule: ArcRule,
+    pub next_rule: ArcRule,
     pub current_end: Vector2,
     pub current_param: f64,
     pub next_start: Vector2,
@@ -96,6 +103,8 @@ impl JoinBoundary {
     {
         JoinBoundary {
             cause,
+            current_rule: ArcRule::NoRule,
+            next_rule: ArcRule::NoRule,
             current_end,
             current_param: 1.0,
             next_start,
@@ -111,17 +120,41 @@ impl JoinBoundary {
         JoinBoundary::connected(cause, current_end, next_start, 0.0)
     }
 
-    // Both spans cut at one point.
-    pub fn trimmed(point: Vector2, current_param: f64, next_param: f64) -> JoinBoundary
-        ensures { λ r. ⌜ r ≡ trimmed point «current_param» «next_param» ⌝ }
+    // Both spans cut where they meet.
+    pub fn trimmed(meeting: Meeting) -> JoinBoundary
+        ensures { λ r. ⌜ r ≡ cutAt meeting ⌝ }
     {
+        let point = meeting.point;
+        let current_rule = meeting.current_rule;
+        let next_rule = meeting.next_rule;
         JoinBoundary {
             cause: JoinCause::Met,
+            current_rule,
+            next_rule,
             current_end: point,
-            current_param,
+            current_param: meeting.current_param,
             next_start: point,
-            next_param,
+            next_param: meeting.next_param,
             connector_bulge: 0.0,
+        }
+    }
+
+    // As 000 has it: the walk goes on with that, and need not carry the rules along.
+    pub fn without_rules(self) -> JoinBoundary
+        ensures { λ r. ⌜ r ≡ forgotten self ⌝ }
+    {
+        let cause = self.cause;
+        let current_end = self.current_end;
+        let next_start = self.next_start;
+        JoinBoundary {
+            cause,
+            current_rule: ArcRule::NoRule,
+            next_rule: ArcRule::NoRule,
+            current_end,
+            current_param: self.current_param,
+            next_start,
+            next_param: self.next_param,
+            connector_bulge: self.connector_bulge,
         }
     }
 
@@ -309,14 +342,10 @@ pub fn join_without_intersection(
 }
 
 fn trimmed_or_gap(met: Met, current_end: Vector2, next_start: Vector2) -> JoinBoundary
-    ensures { λ r. ⌜ r ≡ trimmedBy met «current_end» «next_start» ⌝ }
+    ensures { λ r. ⌜ r ≡ cutBy met «current_end» «next_start» ⌝ }
 {
     match met {
-        Met::At(meeting) => JoinBoundary::trimmed(
-            meeting.point,
-            meeting.current_param,
-            meeting.next_param,
-        ),
+        Met::At(meeting) => JoinBoundary::trimmed(meeting),
         Met::NoMeeting => JoinBoundary::straight(JoinCause::NoMeeting, current_end, next_start),
         Met::CandidatesMissed => JoinBoundary::straight(
             JoinCause::CandidatesMissed,
@@ -369,7 +398,7 @@ fn join_from_line(
     shared_source_vertex: Vector2,
     eps: f64,
 ) -> Joined
-    ensures { λ r. ⌜ Joins r (innerJoin (Line current) (fullSeg next) «shared_source_vertex» eps) next ⌝ }
+    ensures { λ r. ⌜ Joins r (ruledBoundary (Line current) (fullSeg next) eps (innerJoin (Line current) (fullSeg next) «shared_source_vertex» eps)) next ⌝ }
 {
     match next {
         CarriedSeg::Line(line) => unseen(trimmed_or_gap(
@@ -397,7 +426,7 @@ fn join_from_arc(
     shared_source_vertex: Vector2,
     eps: f64,
 ) -> Joined
-    ensures { λ r. ⌜ Joins r (innerJoin (Arc (angled current)) (fullSeg next) «shared_source_vertex» eps) next ⌝ }
+    ensures { λ r. ⌜ Joins r (ruledBoundary (Arc (angled current)) (fullSeg next) eps (innerJoin (Arc (angled current)) (fullSeg next) «shared_source_vertex» eps)) next ⌝ }
 {
     match next {
         CarriedSeg::Line(line) => unseen(trimmed_or_gap(
@@ -427,7 +456,7 @@ fn inner_join(
     shared_source_vertex: Vector2,
     eps: f64,
 ) -> Joined
-    ensures { λ r. ⌜ Joins r (innerJoin (seenSeg seen current) (fullSeg next) «shared_source_vertex» eps) next ⌝ }
+    ensures { λ r. ⌜ Joins r (ruledBoundary (seenSeg seen current) (fullSeg next) eps (innerJoin (seenSeg seen current) (fullSeg next) «shared_source_vertex» eps)) next ⌝ }
 {
     match current {
         CarriedSeg::Line(line) => join_from_line(line, next, shared_source_vertex, eps),
@@ -446,7 +475,7 @@ pub fn analyze_join(
     settings: Settings,
 ) -> Joined
     requires { ⌜ Marked current × Marked next ⌝ }
-    ensures { λ r. ⌜ Joins r (joinOf (seenSeg seen current) (fullSeg next) «shared_source_vertex» settings) next ⌝ }
+    ensures { λ r. ⌜ Joins r (ruledJoin (seenSeg seen current) (fullSeg next) «shared_source_vertex» settings) next ⌝ }
 {
     let settled = join_without_intersection(current, next, shared_source_vertex, settings);
     if let Settled::Boundary(boundary) = settled {

@@ -1,4 +1,6 @@
 pub mod Candidates
 pub mod Samples
 pub mod Nearer
+pub mod Ruled
+pub mod Rules
 pub mod Starts

@@ -1,3 +1,4 @@
 pub mod Params
 pub mod Meetings
+pub mod Rules
 pub mod InnerSteps

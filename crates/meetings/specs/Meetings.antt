@@ -19,13 +19,14 @@ use Rattle.segments.specs.declared.RawOffsetLine.{RawOffsetLine}
 use Rattle.segments.specs.declared.RawOffsetArc.{RawOffsetArc}
 use Rattle.meetings.specs.declared.Param.{Param}
 use Rattle.meetings.specs.declared.Param.the-variants.{Usable, Missed}
+use Rattle.meetings.specs.declared.ArcRule.the-variants.{NoRule}
 use Rattle.meetings.specs.declared.Met.{Met}
 use Rattle.meetings.specs.declared.Met.the-variants.{At, NoMeeting, CandidatesMissed}
 use Rattle.meetings.specs.Params.{usableLineParam, usableArcParam, arcParam, squaredDistancesEqual}
 
--- a meeting at a point, with the parameters on the current and on the next segment
+-- a meeting at a point, with the parameters on the current and on the next segment. Which rules granted them is told by `ruled` (Rules.antt).
 abbrev pub metAt : Vector2 → Float → Float → Met
-metAt p s t = At (record { point = p; «current_param» = s; «next_param» = t })
+metAt p s t = At (record { point = p; «current_param» = s; «next_param» = t; «current_rule» = NoRule; «next_rule» = NoRule })
 
 -- ---- two lines
 
@@ -104,7 +105,7 @@ lineArcMeeting line arc shared ε = lineArcBy (lineCircle (line .start) (line .e
 
 -- the arc as the current one
 abbrev pub exchanged : Met → Met
-exchanged (At m) = metAt (m .point) (m .«next_param») (m .«current_param»)
+exchanged (At m) = At (record { point = m .point; «current_param» = m .«next_param»; «next_param» = m .«current_param»; «current_rule» = m .«next_rule»; «next_rule» = m .«current_rule» })
 exchanged NoMeeting = NoMeeting
 exchanged CandidatesMissed = CandidatesMissed
 

@@ -1,5 +1,5 @@
--- A whole walk draws the kept ones of the rule's moves: an open one, with its last span (`open-drawn`), and a closed one, which is led in by its closing join (`closed-led`),
--- with the closing moves (`closed-drawn`). Where the ends of that join are near, its connector is dropped, as the rule has none. Assumes nothing.
+-- A whole walk draws the kept ones of the rule's moves: an open one, with its last span (`open-drawn`), and a closed one, which is led in by its closing join (`closed-led`;
+-- `closing-told` has its rules), with the closing moves (`closed-drawn`). Where the ends of that join are near, its connector is dropped, as the rule has none. Assumes nothing.
 use mathlib.Core.Path.{_≡_, refl, sym, ap, _∙_}
 use mathlib.Core.List.{List, [], _∷_, _++_}
 use mathlib.Core.Bool.{Bool, true, false}
@@ -16,6 +16,7 @@ use Rattle.segments.specs.Segment.{offsetSeg, startOf}
 use Rattle.joins.specs.declared.JoinBoundary.{JoinBoundary}
 use Rattle.joins.specs.declared.JoinCause.the-variants.{Coincident}
 use Rattle.joins.specs.Boundary.{straight}
+use Rattle.joins.specs.Rules.{ruledJoin}
 use Rattle.joins.proofs.Made.{near-one-point}
 use Rattle.moves.specs.declared.Move.{Move}
 use Rattle.moves.specs.declared.Pen.{Pen}
@@ -112,6 +113,12 @@ module _ (σ : Settings) where
     pub closed-led : goes true σ (a ∷ b ∷ []) (standingAt (lastVertex b vs) 2) ≡ ledIn
     unfolding ledIn goes advance standingAt turnTo afterTurn entering firstEntry when_give_else_ closingJoin joinAt
     closed-led = refl
+
+    -- and the turn that enters there tells the closing join, with its rules
+    pub closing-told : let w = goes true σ (a ∷ []) (standingAt (lastVertex b vs) 2) in
+        turnTo (w .walker) b σ .join ≡ ruledJoin (offsetSeg (lastVertex b vs) a (σ .offset)) (offsetSeg a b (σ .offset)) (posOf a) σ
+    unfolding goes advance standingAt turnTo afterTurn
+    closing-told = refl
 
     pub closed-undrawn : drawnOn true σ (a ∷ b ∷ []) (standingAt (lastVertex b vs) 2) ≡ []
     unfolding drawnOn advance standingAt afterTurn drawnBy when_give_else_ _and_

@@ -22,6 +22,7 @@ use Rattle.joins.specs.declared.JoinBoundary.{JoinBoundary}
 use Rattle.joins.specs.declared.JoinCause.the-variants.{Coincident}
 use Rattle.joins.specs.Boundary.{straight}
 use Rattle.joins.specs.Join.{joinOf}
+use Rattle.joins.specs.Rules.{ruledJoin}
 use Rattle.joins.specs.InnerSteps.{seenSeg}
 use Rattle.moves.specs.declared.Move.{Move}
 use Rattle.moves.specs.declared.Pen.{Pen}
@@ -91,10 +92,11 @@ afterTurn closed pen (suc (suc n)) w = record { walker = w; pen = pen; leading =
 
 -- ---- one turn
 
--- the span and the connector that it makes, and where the walk stands then
+-- the span and the connector that it makes, the join between them with its rules, and where the walk stands then
 pub record Turn : Type 0 where
   pub span : Move
   pub connector : Move
+  pub join : JoinBoundary
   pub walker : Standing
 
 -- on to the segment from the walk's vertex to c
@@ -105,12 +107,13 @@ turnTo w c σ =
     record {
       span = spanMove (w .source .0) (w .current) (w .entry .«next_param») (j .«current_end») (j .«current_param»);
       connector = connectorMove (w .source .0) j;
+      join = ruledJoin (w .current) next (posOf (w .vertex)) σ;
       walker = record { source = record { 0 = w .source .0 + 1 }; current = next; vertex = c; entry = j };
     }
 
 -- the code's: its span has its bulge still to come
 abbrev pub turnShown : Turned → Turn
-turnShown t = record { span = withBulge (bulgeBy (t .curved) (t .sweep)) (t .span); connector = t .connector; walker = stands (t .walk) }
+turnShown t = record { span = withBulge (bulgeBy (t .curved) (t .sweep)) (t .span); connector = t .connector; join = t .join; walker = stands (t .walk) }
 
 -- the span of the segment that the walk stands at, up to a point of it; to its end
 abbrev pub spanTo : Standing → Vector2 → Float → Move

@@ -2,6 +2,7 @@
 use Rattle.meetings.specs.Params.{usableArcParam}
 use Rattle.meetings.specs.Meetings.{arcArcCandidate}
 use Rattle.meetings.specs.InnerSteps.{arcParamAt}
+use Rattle.meetings.proofs.Ruled.{ruled-where}
 use Rattle.meetings.proofs.Starts.{remembered}
 use Rattle.meetings.proofs.arc_arc_candidate.Statement.{statement}
 use Rattle.meetings.proofs.arc_arc_candidate.Tie as tie
@@ -9,11 +10,27 @@ use Rattle.meetings.proofs.arc_arc_candidate.Tie as tie
 returns : tie.Need-returns
 unfolding arcArcCandidate usableArcParam arcParamAt
 returns c =
-    let s = c .before .before .before .before .before in
+    let next = c .before .before .before in
+    let current = next .before .before .before in
+    let s = current .before in
     record {
-      met = simp (c .met-where .ensures, c .before .param2 .ensures, c .before .before .arc-param-at2 .ensures, c .before .before .before .param .ensures, c .before .before .before .before .arc-param-at .ensures, s .starts-and-point .ensures, s .before .arc-arc-point .ensures);
+      met = rw (ruled-where) (simp (
+        c .met-where .ensures,
+        c .before .rule2 .ensures,
+        c .before .before .param2 .ensures,
+        next .arc-param-at2 .ensures,
+        next .before .rule .ensures,
+        next .before .before .param .ensures,
+        current .arc-param-at .ensures,
+        s .starts-and-point .ensures,
+        s .before .arc-arc-point .ensures,
+      ));
       seen = remembered (s .before .before .args .next) (rw (s .starts-and-point .ensures));
     }
 
 pub arc-arc-candidate-spec : {M : Type 1} → statement M
-arc-arc-candidate-spec = tie.close (tie.spec (λ c κs. tt) (λ c κs. tt) (λ c κs. rw (c .starts-and-point .ensures)) (λ c κs. tt) (λ c κs. rw (c .before .before .starts-and-point .ensures)) (λ c κs. tt) (λ c κs. tt) returns)
+arc-arc-candidate-spec =
+    tie.close
+    (tie.spec
+    (λ c κs. tt) (λ c κs. tt) (λ c κs. rw (c .starts-and-point .ensures)) (λ c κs. tt) (λ c κs. tt) (λ c κs. rw (c .before .before .before .starts-and-point .ensures)) (λ c κs. tt) (λ c κs. tt) (λ c κs. tt)
+    returns)

@@ -2,6 +2,7 @@
 use mathlib.Core.Path.{refl}
 use borrow.Author.Needs.{needs}
 use Rattle.meetings.specs.InnerSteps.{lineArcAt}
+use Rattle.meetings.proofs.Ruled.{ruled-where}
 use Rattle.meetings.proofs.line_arc_candidate.Statement.{statement}
 use Rattle.meetings.proofs.line_arc_candidate.Tie as tie
 
@@ -10,6 +11,7 @@ unfolding lineArcAt
 line-arc-candidate-spec = tie.close
     (tie.spec (λ c κs. tt) (λ c κs. tt) (λ c κs. tt) (λ c. search needs) (λ c κs. tt) (λ c κs. tt) (λ c. search needs)
     (λ c. rw (
+      ruled-where,
       ← c .before .before .before .before .before .before .before .sub .ensures,
       ← c .before .before .before .before .before .before .length-squared .ensures,
       ←
@@ -17,4 +19,4 @@ line-arc-candidate-spec = tie.close
       c .before .before .before .line-param .given .1,
       ← c .before .line-arc-point .ensures,
     ) (c .with-arc-param .ensures))
-    (λ c. rw (← c .before .before .before .before .sub .ensures, ← c .before .before .before .length-squared .ensures, ← c .before .before .usable-line-param .ensures, c .enum-told .given .1) (record { met = refl; seen = refl })))
+    (λ c. rw (ruled-where, ← c .before .before .before .before .sub .ensures, ← c .before .before .before .length-squared .ensures, ← c .before .before .usable-line-param .ensures, c .enum-told .given .1) (record { met = refl; seen = refl })))

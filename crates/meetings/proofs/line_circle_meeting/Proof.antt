@@ -5,6 +5,7 @@ use lib.Ieee.{Float}
 use Rattle.vectors.specs.declared.Vector2.{Vector2}
 use Rattle.intersections.specs.LineCircle.{lineCircle}
 use Rattle.meetings.specs.Meetings.{lineArcMeeting}
+use Rattle.meetings.specs.Rules.{ruled}
 use Rattle.meetings.proofs.Candidates.{lineArcAt-is}
 use Rattle.meetings.proofs.line_circle_meeting.Statement.{statement}
 use Rattle.meetings.proofs.line_circle_meeting.Tie as tie
@@ -16,7 +17,7 @@ by-numbers :
 by-numbers s e ε same = rw (same .0, same .1, same .2) refl
 
 returns : tie.Need-returns
-unfolding lineArcMeeting
+unfolding lineArcMeeting ruled
 returns c = rw (← by-numbers _ _ _ (c .before .before .before .before .before .before .pre), ← c .before .before .before .line-circle-intr .ensures, c .before .enum-told .given .1) (rw (c .no-meeting .ensures) (record { met = refl; seen = refl }))
 
 returns-2 : tie.Need-returns-2

@@ -7,10 +7,12 @@ use Rattle.meetings.proofs.with_arc_param.Tie as tie
 
 returns : tie.Need-returns
 unfolding usableArcParam arcParamAt
-returns c = record {
-  met = simp (c .met-where .ensures, c .before .param .ensures, c .before .before .arc-param-at .ensures, c .before .before .before .start-and-point .ensures);
-  seen = remembered (c .before .before .before .before .args .arc) (rw (c .before .before .before .start-and-point .ensures));
-}
+returns c =
+    let asked = c .before .before .before in
+    record {
+      met = simp (c .met-where .ensures, c .before .rule .ensures, c .before .before .param .ensures, asked .arc-param-at .ensures, asked .before .start-and-point .ensures);
+      seen = remembered (asked .before .before .args .arc) (rw (asked .before .start-and-point .ensures));
+    }
 
 pub with-arc-param-spec : {M : Type 1} → statement M
-with-arc-param-spec = tie.close (tie.spec (λ c κs. tt) (λ c κs. rw (c .start-and-point .ensures)) (λ c κs. tt) (λ c κs. tt) returns)
+with-arc-param-spec = tie.close (tie.spec (λ c κs. tt) (λ c κs. rw (c .start-and-point .ensures)) (λ c κs. tt) (λ c κs. tt) (λ c κs. tt) returns)

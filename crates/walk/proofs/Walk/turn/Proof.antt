@@ -1,45 +1,66 @@
 -- `walk::Walk::turn` meets its contract. Assumes nothing.
 use mathlib.Core.Path.{_≡_, refl, ap, _∙_}
 use mathlib.Core.Bool.{Bool}
+use Prim.Native.Nat.{_+_}
 use native.Mathlib.Omega.{arith}
-use Rattle.segments.specs.Segment.{spanBulge}
+use Rattle.segments.specs.declared.PlineVertex.{PlineVertex}
+use Rattle.segments.specs.declared.Settings.{Settings}
+use Rattle.segments.specs.Vertex.{posOf}
+use Rattle.segments.specs.Segment.{offsetSeg, spanBulge}
 use Rattle.segments.specs.InnerSteps.{fullSeg, bulgeBy}
 use Rattle.segments.proofs.Carried.{bulge-by}
 use Rattle.moves.specs.declared.Move.{Move}
-use Rattle.moves.specs.Made.{spanMove}
-use Rattle.walk.specs.InnerSteps.{turnTo}
+use Rattle.joins.specs.Rules.{ruledBoundary, ruledJoin, forgotten}
+use Rattle.joins.proofs.Rules.{forgets}
+use Rattle.moves.specs.Made.{spanMove, connectorMove}
+use Rattle.walk.specs.InnerSteps.{Standing, Turn, turnTo}
 use Rattle.walk.proofs.Walk.turn.Statement.{statement}
 use Rattle.walk.proofs.Walk.turn.Tie as tie
 
 analyze-join-requires : tie.Need-analyze-join-requires
 analyze-join-requires c κs = let pre = c .before .before .before .before .before .pre in (pre .1 .0 .marked, pre .1 .1 .marked)
 
+-- the turn by its join with the rules: all but them is the join as it was
+by-ruled : (w : Standing) (c : PlineVertex) (σ : Settings) →
+    let next = offsetSeg (w .vertex) c (σ .offset) in
+    let j = ruledJoin (w .current) next (posOf (w .vertex)) σ in
+    _≡_ {A = Turn} (record {
+      span = spanMove (w .source .0) (w .current) (w .entry .«next_param») (j .«current_end») (j .«current_param»);
+      connector = connectorMove (w .source .0) j;
+      join = j;
+      walker = record { source = record { 0 = w .source .0 + 1 }; current = next; vertex = c; entry = forgotten j };
+    })
+    (turnTo w c σ)
+unfolding turnTo connectorMove ruledBoundary
+by-ruled w c σ = rw (forgets (w .current) (offsetSeg (w .vertex) c (σ .offset)) (posOf (w .vertex)) σ)
+
 returns : tie.Need-returns
-unfolding turnTo spanMove
+unfolding spanMove
 returns c =
-    let start = c .before .before .before .before .before .before .before .before .before .before .before .before in
+    let start = c .before .before .before .before .before .before .before .before .before .before .before .before .before in
     let w = start .args .self in
     let segment = start .pre .1 .1 in
-    let joined = c .before .before .before .before .before .before .analyze-join in
+    let joined = c .before .before .before .before .before .before .before .analyze-join in
     let to = joined .result .boundary .«current_param» in
-    let arc = c .before .before .before .before .is-arc in
-    let swept = c .before .before .before .span-sweep in
+    let arc = c .before .before .before .before .before .is-arc in
+    let swept = c .before .before .before .before .span-sweep in
     let bulge : bulgeBy (arc .result) (swept .result) ≡ spanBulge (fullSeg (w .current)) (w .entry .«next_param») to =
     ap (λ (b : Bool). bulgeBy b (swept .result)) (arc .ensures) ∙ ap (bulgeBy _) (swept .ensures) ∙ bulge-by (fullSeg (w .current)) (w .entry .«next_param») to in (
-      simp (
-        c .before .connector .ensures,
-        c .before .before .straight-span .ensures,
+      rw (← by-ruled) (simp (
+        c .before .without-rules .ensures,
+        c .before .before .connector .ensures,
+        c .before .before .before .straight-span .ensures,
         bulge,
         joined .ensures .boundary,
         start .pre .1 .0 .seen,
         segment .full,
-        c .before .before .before .before .before .before .before .pos .ensures,
-      ),
-      ap (λ (m : Move). m .bulge) (c .before .before .straight-span .ensures),
+        c .before .before .before .before .before .before .before .before .pos .ensures,
+      )),
+      ap (λ (m : Move). m .bulge) (c .before .before .before .straight-span .ensures),
       record { marked = segment .marked; seen = joined .ensures .seen },
       refl,
       refl,
     )
 
 pub turn-spec : {M : Type 1} → statement M
-turn-spec = tie.close (tie.spec (λ c κs. tt) analyze-join-requires (λ c κs. tt) (λ c κs. tt) (λ c κs. tt) (λ c κs. tt) (λ c. omega (arith, c .before .before .before .before .before .before .before .before .before .before .before .before .pre .0)) returns)
+turn-spec = tie.close (tie.spec (λ c κs. tt) analyze-join-requires (λ c κs. tt) (λ c κs. tt) (λ c κs. tt) (λ c κs. tt) (λ c κs. tt) (λ c. omega (arith, c .before .before .before .before .before .before .before .before .before .before .before .before .before .pre .0)) returns)
