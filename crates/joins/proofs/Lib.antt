@@ -3,4 +3,5 @@ pub mod Settling
 pub mod Made
 pub mod Rules
 pub mod Samples
+pub mod RuleSamples
 pub mod Seen

@@ -4,3 +4,4 @@ pub mod Around
 pub mod Connectors
 pub mod Ends
 pub mod Lengths
+pub mod Samples
