@@ -1,9 +1,18 @@
 -- An intersection as C gets it, for timing and comparing alone; no rule rests on these: its kind, in the order of their declaration, and four numbers, zeros after the last.
--- Definitions only.
-use Prim.Native.Nat.{ℕ}
+-- A join so too, with its rules: its kind has three digits, the cause, the current side's rule and the next side's. Definitions only.
+use Prim.Native.Nat.{ℕ, _+_, _*_}
 use mathlib.Core.List.{List, [], _∷_}
 use lib.Ieee.{Float}
 use Rattle.floats.specs.Binary64.{zero}
+use Rattle.segments.specs.declared.Settings.{Settings}
+use Rattle.segments.specs.Vertex.{posOf}
+use Rattle.segments.specs.Segment.{offsetSeg}
+use Rattle.source.specs.InnerSteps.{vertexOf}
+use Rattle.meetings.specs.Rules.{ruleNumber}
+use Rattle.joins.specs.declared.JoinCause.{JoinCause}
+use Rattle.joins.specs.declared.JoinCause.the-variants as Cause
+use Rattle.joins.specs.declared.JoinBoundary.{JoinBoundary}
+use Rattle.joins.specs.Rules.{ruledJoin}
 use Rattle.intersections.specs.declared.LineLineIntr.{LineLineIntr}
 use Rattle.intersections.specs.declared.LineLineIntr.the-variants as LineLine
 use Rattle.intersections.specs.declared.LineCircleIntr.{LineCircleIntr}
@@ -37,3 +46,25 @@ circleCircleListed CircleCircle.NoIntersect = listed 0 (four zero zero zero zero
 circleCircleListed (CircleCircle.TangentIntersect p) = listed 1 (four (p .x) (p .y) zero zero)
 circleCircleListed (CircleCircle.TwoIntersects p q) = listed 2 (four (p .x) (p .y) (q .x) (q .y))
 circleCircleListed CircleCircle.Overlapping = listed 3 (four zero zero zero zero)
+
+abbrev pub causeNumber : JoinCause → ℕ
+causeNumber Cause.Coincident = 0
+causeNumber Cause.Met = 1
+causeNumber Cause.OuterTurn = 2
+causeNumber Cause.Reversal = 3
+causeNumber Cause.CollapsedSide = 4
+causeNumber Cause.NoMeeting = 5
+causeNumber Cause.CandidatesMissed = 6
+causeNumber Cause.ZeroTangent = 7
+causeNumber Cause.SameDirection = 8
+
+abbrev pub joinListed : JoinBoundary → Listed
+joinListed j =
+    listed (100 * causeNumber (j .cause) + 10 * ruleNumber (j .«current_rule») + ruleNumber (j .«next_rule»))
+    (j .«current_end» .x ∷ j .«current_end» .y ∷ j .«current_param» ∷ j .«next_start» .x ∷ j .«next_start» .y ∷ j .«next_param» ∷ j .«connector_bulge» ∷ [])
+
+-- the join at the third of four vertices
+abbrev pub joinOfFour : List Float → Settings → JoinBoundary
+joinOfFour s σ =
+    let c = vertexOf s 2 in
+    ruledJoin (offsetSeg (vertexOf s 1) c (σ .offset)) (offsetSeg c (vertexOf s 3) (σ .offset)) (posOf c) σ

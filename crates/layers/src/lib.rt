@@ -7,10 +7,17 @@ ghost use Rattle.angles.specs.Angle.{atanOf, tanOf, angleOf};
 ghost use Rattle.intersections.specs.Lines.{lineLine};
 ghost use Rattle.intersections.specs.LineCircle.{lineCircle};
 ghost use Rattle.intersections.specs.Circles.{circleCircle};
-ghost use Rattle.layers.specs.InnerSteps.{listed, lineLineListed, lineCircleListed, circleCircleListed};
+ghost use Rattle.segments.specs.InnerSteps.{fullSeg, Marked};
+ghost use Rattle.joins.specs.InnerSteps.{seenSeg};
+ghost use Rattle.layers.specs.InnerSteps.{listed, lineLineListed, lineCircleListed, circleCircleListed, causeNumber, joinListed, joinOfFour};
 use intersections::CircleCircleIntr;
 use intersections::LineCircleIntr;
 use intersections::LineLineIntr;
+use joins::JoinBoundary;
+use joins::JoinCause;
+use segments::CarriedSeg;
+use segments::PlineVertex;
+use segments::Settings;
 use vectors::Vector2;
 
 // floats::sqrt
@@ -213,4 +220,66 @@ pub extern "C" fn layers_circle_circle(
     let b = vector(bx, by);
     let i = intersections::circle_circle_intr(radius1, a, radius2, b, eps);
     listed_circle_circle(i, out)
+}
+
+// What the join at b has seen of the segment after it.
+fn seen_before(a: PlineVertex, b: PlineVertex, current: CarriedSeg, settings: Settings) -> f64
+    requires { ⌜ Marked current ⌝ }
+    ensures { λ r. ⌜ seenSeg r current ≡ fullSeg current ⌝ }
+{
+    let before = CarriedSeg::anew(a, b, settings.offset);
+    let joined = joins::analyze_join(before, meetings::not_seen(), current, b.pos(), settings);
+    joined.seen
+}
+
+fn cause_number(cause: JoinCause) -> u32
+    ensures { λ r. ⌜ r ≡ causeNumber cause ⌝ }
+{
+    match cause {
+        JoinCause::Coincident => 0,
+        JoinCause::Met => 1,
+        JoinCause::OuterTurn => 2,
+        JoinCause::Reversal => 3,
+        JoinCause::CollapsedSide => 4,
+        JoinCause::NoMeeting => 5,
+        JoinCause::CandidatesMissed => 6,
+        JoinCause::ZeroTangent => 7,
+        JoinCause::SameDirection => 8,
+    }
+}
+
+fn listed_join(boundary: JoinBoundary, out: &mut [f64; 7]) -> u32
+    ensures { λ r. ⌜ listed r (now (out .exit)) ≡ joinListed boundary ⌝ }
+{
+    let end = boundary.current_end;
+    let start = boundary.next_start;
+    *out = [
+        end.x,
+        end.y,
+        boundary.current_param,
+        start.x,
+        start.y,
+        boundary.next_param,
+        boundary.connector_bulge,
+    ];
+    let cause = boundary.cause;
+    let current_rule = boundary.current_rule;
+    let next_rule = boundary.next_rule;
+    100 * cause_number(cause) + 10 * current_rule.number() + next_rule.number()
+}
+
+// joins::analyze_join at the third of four vertices, after the join at the second, as a walk comes to it
+#[no_mangle]
+pub extern "C" fn layers_join(source: &[f64; 12], offset: f64, eps: f64, out: &mut [f64; 7]) -> u32
+    ensures { λ r. ⌜ listed r (now (out .exit)) ≡ joinListed (joinOfFour (now (source .entry)) (record { offset = offset; eps = eps })) ⌝ }
+{
+    let settings = Settings { offset, eps };
+    let b = source::vertex_at(source, 1);
+    let c = source::vertex_at(source, 2);
+    let current = CarriedSeg::anew(b, c, offset);
+    let seen = seen_before(source::vertex_at(source, 0), b, current, settings);
+    let next = CarriedSeg::anew(c, source::vertex_at(source, 3), offset);
+    let joined = joins::analyze_join(current, seen, next, c.pos(), settings);
+    let boundary = joined.boundary;
+    listed_join(boundary, out)
 }
