@@ -7,6 +7,7 @@
 //! numbers, one flag for each output segment, the indexes.
 
 use crate::stage::{Job, Outcome};
+use crate::traced::Rule;
 use std::fmt::Write;
 
 pub fn bits(number: f64) -> String {
@@ -56,6 +57,21 @@ pub fn outcome_row(outcome: &Outcome) -> String {
         write!(row, " {index}").expect("a string takes all");
     }
     row
+}
+
+/// The names of a current side's rule and the next one's.
+pub fn rules_text(rules: [Option<Rule>; 2]) -> String {
+    rules.map(Rule::name_of).join(" ")
+}
+
+/// Reads the rules of a meeting or a join from its row, whatever stands before them, and a start angle
+/// after them.
+pub fn read_rules(row: &str) -> Option<[Option<Rule>; 2]> {
+    let row = row.split_once(" seen ").map_or(row, |parts| parts.0);
+    let mut words = row.strip_suffix(" unseen").unwrap_or(row).rsplit(' ');
+    let next = Rule::named(words.next()?)?;
+    let current = Rule::named(words.next()?)?;
+    Some([current, next])
 }
 
 /// Reads what `job_row` and `any_job_row` write.

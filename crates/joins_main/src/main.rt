@@ -6,6 +6,7 @@ use joins::JoinBoundary;
 use joins::JoinClass;
 use joins::JoinTurn;
 use meetings::ArcParam;
+use meetings::ArcRule;
 use meetings::Met;
 use meetings::Param;
 use meetings::SeenArc;
@@ -193,6 +194,21 @@ fn squared_distances_equal(row: &[u8; 192]) {
     print_bool(meetings::squared_distances_equal(number(row, 1), number(row, 2), number(row, 3)));
 }
 
+fn print_rule(rule: ArcRule) {
+    match rule {
+        ArcRule::NoRule => print(b" none"),
+        ArcRule::StartMatched => print(b" start"),
+        ArcRule::EndMatched => print(b" end"),
+        ArcRule::Inside => print(b" inside"),
+        ArcRule::PastEnd => print(b" past"),
+    }
+}
+
+fn print_rules(current: ArcRule, next: ArcRule) {
+    print_rule(current);
+    print_rule(next);
+}
+
 fn print_met(met: Met) {
     match met {
         Met::At(meeting) => {
@@ -200,6 +216,9 @@ fn print_met(met: Met) {
             print_vector(meeting.point);
             print_number(meeting.current_param);
             print_number(meeting.next_param);
+            let current_rule = meeting.current_rule;
+            let next_rule = meeting.next_rule;
+            print_rules(current_rule, next_rule);
         }
         Met::NoMeeting => print(b" none"),
         Met::CandidatesMissed => print(b" missed"),
@@ -323,6 +342,9 @@ fn print_boundary(boundary: JoinBoundary) {
     print_number(boundary.next_param);
     print_number(boundary.connector_bulge);
     print_bool(boundary.connector_is_invalid());
+    let current_rule = boundary.current_rule;
+    let next_rule = boundary.next_rule;
+    print_rules(current_rule, next_rule);
 }
 
 // Three vertices: the segments between them are joined at the second.

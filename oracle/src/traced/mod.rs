@@ -14,7 +14,7 @@ mod segments;
 mod sites;
 
 pub use job::{job, stage};
-pub use rules::Rule;
+pub use rules::{Rule, RuleTable};
 pub use sites::{EXPECTED, Event, Pair, Site};
 
 /// A test, its answer, and how far the two numbers compared lie apart.

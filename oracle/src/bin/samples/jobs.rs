@@ -6,9 +6,21 @@ use oracle::text::{job_row, outcome_row, read_job};
 /// Comments and jobs: 01's rows and settled points, then what `compare cover` found.
 const JOBS: [&str; 2] = [include_str!("settled.txt"), include_str!("jobs.txt")];
 
+/// Jobs that reach each rule by which a trimmed arc is granted; for joins alone.
+const RULES: &str = include_str!("rules.txt");
+
 /// Each job of the two lists.
 pub fn all() -> impl Iterator<Item = Job> {
-    let lines = JOBS.iter().flat_map(|list| list.lines());
+    JOBS.iter().flat_map(|list| listed(list))
+}
+
+/// Each job of the list for joins.
+pub fn of_rules() -> impl Iterator<Item = Job> {
+    listed(RULES)
+}
+
+fn listed(list: &'static str) -> impl Iterator<Item = Job> {
+    let lines = list.lines();
     lines.filter(|line| !line.starts_with('#')).map(job)
 }
 

@@ -6,13 +6,13 @@ use crate::rows::{Rows, named, point, words};
 use oracle::core::math::{Vector2, angle};
 use oracle::polyline::PlineVertex;
 use oracle::stage::Job;
-use oracle::text::bits;
+use oracle::text::{bits, read_rules, rules_text};
 use oracle::traced::parts::{
     Fragment, Joined, Meets, Met, Side, arc_param, equally_near, line_param, meeting, round, span,
     tangents,
 };
-use oracle::traced::{Table, Trace};
-use std::f64::consts::{FRAC_1_SQRT_2, FRAC_PI_2, PI};
+use oracle::traced::{RuleTable, Table, Trace};
+use std::f64::consts::{FRAC_1_SQRT_2, FRAC_PI_2, PI, TAU};
 
 const INF: f64 = f64::INFINITY;
 const NAN: f64 = f64::NAN;
@@ -36,6 +36,14 @@ const HALF: [f64; 9] = [0.0, -1.0, 0.0, 1.0, 0.0, 0.0, 1.0, -FRAC_PI_2, PI];
 const TOUCHING: [f64; 9] = [2.0, 1.0, 2.0, -1.0, 2.0, 0.0, 1.0, FRAC_PI_2, PI];
 const UPPER: [f64; 9] = [2.0, 1.0, 1.0, NEAR, 2.0, 0.0, 1.0, FRAC_PI_2, FRAC_PI_2];
 const LOWER: [f64; 9] = [1.0, NEAR, 2.0, -1.0, 2.0, 0.0, 1.0, PI, FRAC_PI_2];
+
+/// Nearly all of each of the two circles, with its gap where they touch.
+const RING: [f64; 9] = [1.0, NEAR, 1.0, -NEAR, 0.0, 0.0, 1.0, NEAR, NEARLY_TAU];
+const RING_BESIDE: [f64; 9] = [1.0, -NEAR, 1.0, NEAR, 2.0, 0.0, 1.0, NEAR - PI, NEARLY_TAU];
+const NEARLY_TAU: f64 = TAU - 2.0 * NEAR;
+
+/// A line across the unit circle where the other touches it.
+const ACROSS: Side = Side::Line([0.5, 0.0, 1.5, 0.0]);
 
 /// Near zero and not at it.
 const NEAR: f64 = 1e-6;
@@ -77,6 +85,29 @@ const BESIDE: [[Side; 2]; 15] = [
     [Side::Arc(LEFT), Side::Arc(OPPOSITE)],
     [Side::Arc(RIGHT), Side::Arc(OPPOSITE)],
     [Side::Arc(LEFT), Side::Arc(RIGHT)],
+];
+
+/// Arcs that start, or end, in the direction of (1, 0) and away from it.
+const STARTING: Side = ending(LEFT, 0, 2.0, 0.0);
+const ENDING: Side = ending(RIGHT, 1, 2.0, 0.0);
+const STARTING_BESIDE: Side = ending(LOWER, 0, 0.0, 0.0);
+const ENDING_BESIDE: Side = ending(UPPER, 1, 0.0, 0.0);
+
+/// Meetings where exactly 0 or exactly the sweep was travelled; then meetings near both ends.
+const BOUNDS: [[Side; 2]; 13] = [
+    [ACROSS, STARTING],
+    [ACROSS, ENDING],
+    [STARTING, ACROSS],
+    [ENDING, ACROSS],
+    [STARTING, STARTING_BESIDE],
+    [STARTING, ENDING_BESIDE],
+    [ENDING, STARTING_BESIDE],
+    [ENDING, ENDING_BESIDE],
+    [ACROSS, Side::Arc(RING)],
+    [Side::Arc(RING), ACROSS],
+    [Side::Arc(RING), Side::Arc(TOUCHING)],
+    [Side::Arc(HALF), Side::Arc(RING_BESIDE)],
+    [Side::Arc(RING), Side::Arc(RING_BESIDE)],
 ];
 
 pub fn rows() -> Rows {
@@ -153,7 +184,7 @@ fn line_params(rows: &mut Rows) {
 }
 
 /// An arc, a point and ε.
-fn points_of_arcs() -> [([f64; 9], [f64; 2], f64); 28] {
+fn points_of_arcs() -> [([f64; 9], [f64; 2], f64); 34] {
     let half = FRAC_1_SQRT_2;
     // Not on its own circle: a point past the end is then within ε along the arc alone.
     let mut small = LEFT;
@@ -189,6 +220,13 @@ fn points_of_arcs() -> [([f64; 9], [f64; 2], f64); 28] {
         (small, [-3.0 * E, 1.0], E),
         (straight, [2.0, 0.0], 1e-5),
         (straight, [2.0, 1.0], 1e-5),
+        // Exactly 0 and exactly the sweep travelled; near both ends.
+        (LEFT, [2.0, 0.0], 1e-5),
+        (LEFT, [0.0, 2.0], 1e-5),
+        (RIGHT, [0.0, 2.0], 1e-5),
+        (RIGHT, [2.0, 0.0], 1e-5),
+        (RING, [1.0, 0.0], 1e-5),
+        (RING_BESIDE, [1.0, 0.0], 1e-5),
     ]
 }
 
@@ -235,7 +273,8 @@ fn neighbours() -> impl Iterator<Item = ([Side; 2], Vector2, f64)> {
         let shared = fragment.vertices[1].pos();
         Some((fragment.sides()?, shared, fragment.eps))
     });
-    of_jobs.chain(BESIDE.map(|sides| (sides, Vector2::new(1.0, 0.0), 1e-5)))
+    let made = BESIDE.into_iter().chain(BOUNDS);
+    of_jobs.chain(made.map(|sides| (sides, Vector2::new(1.0, 0.0), 1e-5)))
 }
 
 fn meetings(rows: &mut Rows) {
@@ -258,7 +297,10 @@ fn meetings(rows: &mut Rows) {
 
 fn met_text(met: Met) -> String {
     match met {
-        Ok(Meets { at, params, .. }) => named("at", &[at.x, at.y, params[0], params[1]]),
+        Ok(Meets { at, params, rules }) => {
+            let numbers = named("at", &[at.x, at.y, params[0], params[1]]);
+            format!("{numbers} {}", rules_text(rules))
+        }
         Err(way) => way.to_string(),
     }
 }
@@ -383,17 +425,9 @@ fn joined_numbers(fragment: &Fragment) -> [f64; 10] {
 }
 
 fn boundary_text(join: &Joined) -> String {
-    let (end, start) = (join.end, join.start);
-    let numbers = [
-        end.x,
-        end.y,
-        join.end_param,
-        start.x,
-        start.y,
-        join.start_param,
-        join.bulge,
-    ];
-    format!("{} {}", named(join.class, &numbers), truth(join.invalid))
+    let numbers = named(join.class, &join.numbers());
+    let rules = rules_text(join.rules);
+    format!("{numbers} {} {rules}", truth(join.invalid))
 }
 
 /// The joins once more, with the start angle known where the current side is an arc, and with the
@@ -444,7 +478,7 @@ const RIGHT_ANGLE: Fragment = Fragment {
 
 /// Each three vertices in a row of each sample job, and one more.
 fn fragments() -> impl Iterator<Item = Fragment> {
-    let of_jobs = jobs::all().flat_map(|job| {
+    let of_jobs = jobs::all().chain(jobs::of_rules()).flat_map(|job| {
         let vertices = walked(&job);
         let windows: Vec<_> = vertices.windows(3).map(|v| [v[0], v[1], v[2]]).collect();
         windows.into_iter().map(move |vertices| Fragment {
@@ -468,7 +502,7 @@ fn walked(job: &Job) -> Vec<PlineVertex> {
     vertices
 }
 
-/// Prints which tests and events the joins reach.
+/// Prints which tests and events the joins reach, and how many rows tell each rule.
 pub fn print_reached() {
     let mut table = Table::default();
     for fragment in fragments() {
@@ -477,4 +511,33 @@ pub fn print_reached() {
         table.add(&trace);
     }
     table.print();
+    let rules = told_rules();
+    println!("rules by function and side: start, end, inside, past");
+    for (function, table) in &rules {
+        table.print(function);
+    }
+    println!(
+        "two arcs by function and the current one's rule: the next one's start, end, inside, past"
+    );
+    for (function, table) in &rules {
+        table.print_pairs(function);
+    }
+}
+
+/// How many rows of each function tell each rule.
+fn told_rules() -> Vec<(&'static str, RuleTable)> {
+    let mut tables: Vec<(&'static str, RuleTable)> = Vec::new();
+    for row in rows().samples() {
+        let Some(rules) = read_rules(&row.output) else {
+            continue;
+        };
+        if tables.iter().all(|known| known.0 != row.function) {
+            tables.push((row.function, RuleTable::default()));
+        }
+        let mut same = tables.iter_mut().filter(|known| known.0 == row.function);
+        if let Some((_, table)) = same.next() {
+            table.add(rules);
+        }
+    }
+    tables
 }
