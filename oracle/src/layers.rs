@@ -1,6 +1,7 @@
 //! Inner functions of the proved code, called through the archive of the crate `layers`.
 
 use crate::core::math::Vector2;
+use crate::polyline::PlineVertex;
 
 unsafe extern "C" {
     pub safe fn layers_sqrt(x: f64) -> f64;
@@ -40,13 +41,21 @@ unsafe extern "C" {
         eps: f64,
         out: &mut [f64; 4],
     ) -> u32;
+    safe fn layers_join(source: &[f64; 12], offset: f64, eps: f64, out: &mut [f64; 7]) -> u32;
 }
 
 /// The kind of an intersection, in the order of the enum, and its numbers, zeros after the last.
 pub type Told = (u32, [f64; 4]);
 
+/// 100 times the precise cause of a join, ten times the number of the current side's rule, and that of
+/// the next one's; then both points, each with its parameter, and the connector's bulge.
+pub type JoinTold = (u32, [f64; 7]);
+
+/// What stands in a number before a call.
+const UNSET: f64 = -7.25;
+
 /// What stands in the numbers before a call.
-const BEFORE: [f64; 4] = [-7.25; 4];
+const BEFORE: [f64; 4] = [UNSET; 4];
 
 pub fn angle(center: Vector2, point: Vector2) -> f64 {
     layers_angle(center.x, center.y, point.x, point.y)
@@ -68,4 +77,16 @@ pub fn circle_circle(radius1: f64, a: Vector2, radius2: f64, b: Vector2, eps: f6
     let mut out = BEFORE;
     let kind = layers_circle_circle(radius1, a.x, a.y, radius2, b.x, b.y, eps, &mut out);
     (kind, out)
+}
+
+/// The join at the third of four vertices, made after that at the second. Where the second is the first
+/// of a walk, the first is the same.
+pub fn join(vertices: [PlineVertex; 4], offset: f64, eps: f64) -> JoinTold {
+    let mut source = [0.0; 12];
+    for (place, v) in source.chunks_exact_mut(3).zip(vertices) {
+        place.copy_from_slice(&[v.x, v.y, v.bulge]);
+    }
+    let mut out = [UNSET; 7];
+    let told = layers_join(&source, offset, eps, &mut out);
+    (told, out)
 }

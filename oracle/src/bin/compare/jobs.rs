@@ -42,6 +42,15 @@ pub fn each_job(
     mut take: impl FnMut(&'static str, &Job),
 ) -> Steering {
     each_plain_job(seed, random, &mut take);
+    each_steered_job(seed, steered, take)
+}
+
+/// Hands out about `steered` steered jobs.
+pub fn each_steered_job(
+    seed: u64,
+    steered: u64,
+    mut take: impl FnMut(&'static str, &Job),
+) -> Steering {
     let mut steering = Steering::new(!seed);
     let (mut given, mut tries) = (0, 0);
     while given < steered && tries < 100 * steered {

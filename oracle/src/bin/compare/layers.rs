@@ -30,8 +30,7 @@ impl Layer {
 
     fn hold(&mut self, arguments: &[f64], expected: Told, proved: Told) {
         self.kinds[expected.0 as usize] += 1;
-        let same = |(a, b): (&f64, &f64)| a.to_bits() == b.to_bits() || a.is_nan() && b.is_nan();
-        if expected.0 == proved.0 && expected.1.iter().zip(&proved.1).all(same) {
+        if expected.0 == proved.0 && alike(&expected.1, &proved.1) {
             return;
         }
         self.differing += 1;
@@ -41,6 +40,12 @@ impl Layer {
             println!("  01's {expected:?}, proved {proved:?}");
         }
     }
+}
+
+/// Whether all numbers are the same, a NaN being any NaN.
+pub fn alike(a: &[f64], b: &[f64]) -> bool {
+    let same = |(a, b): (&f64, &f64)| a.to_bits() == b.to_bits() || a.is_nan() && b.is_nan();
+    a.iter().zip(b).all(same)
 }
 
 /// Runs `count` calls of each function.

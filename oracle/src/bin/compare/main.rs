@@ -10,6 +10,9 @@
 //! - `compare cover SEED RANDOM STEERED` prints a short list of small jobs that reaches all that
 //!   these reach.
 //! - `compare layers SEED COUNT` holds the inner functions of the proved code to 01's arithmetic.
+//! - `compare rules SEED RANDOM STEERED` holds each join of such jobs, and of the families that 2026-02
+//!   let in, by itself: the proved code's against the traced one, with cause, numbers and rules.
+//! - `compare rules` does so for the jobs that standard input holds, a row each.
 
 #[cfg(with_000)]
 mod cover;
@@ -19,6 +22,8 @@ mod jobs;
 mod layers;
 #[cfg(with_000)]
 mod newly;
+#[cfg(all(feature = "layers", with_000))]
+mod rules;
 #[cfg(with_000)]
 mod sides;
 #[cfg(with_000)]
@@ -40,7 +45,7 @@ fn main() {
         None => {
             eprintln!(
                 "usage: compare [cover] SEED RANDOM STEERED | bulk SEED JOBS | keyholes SEED JOBS \
-                 | layers SEED COUNT | rows"
+                 | layers SEED COUNT | rules [SEED RANDOM STEERED] | rows"
             );
             exit(2);
         }
@@ -73,6 +78,10 @@ fn run_jobs(mode: &str, numbers: &[u64]) -> Option<bool> {
         ("bulk", [seed, jobs]) => Some(sides::bulk(*seed, *jobs)),
         ("keyholes", [seed, jobs]) => Some(sides::keyholes(*seed, *jobs)),
         ("rows", []) => Some(sides::rows()),
+        #[cfg(feature = "layers")]
+        ("rules", [seed, random, steered]) => Some(rules::compare(*seed, *random, *steered)),
+        #[cfg(feature = "layers")]
+        ("rules", []) => Some(rules::rows()),
         _ => None,
     }
 }

@@ -7,9 +7,12 @@ use oracle::stage::{Before, Job, Outcome, Stage};
 use oracle::text::{any_job_row, outcome_row, read_job};
 use std::io::stdin;
 
+/// What the reference of single joins is held to 000 by.
+pub const TRACED: (&str, Stage) = ("traced", oracle::traced::stage);
+
 /// What is held against 000.
 pub const SIDES: &[(&str, Stage)] = &[
-    ("traced", oracle::traced::stage),
+    TRACED,
     #[cfg(feature = "proved")]
     PROVED,
 ];
