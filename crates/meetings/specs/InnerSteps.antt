@@ -11,6 +11,8 @@ use Rattle.segments.specs.declared.RawOffsetLine.{RawOffsetLine}
 use Rattle.segments.specs.declared.RawOffsetArc.{RawOffsetArc}
 use Rattle.meetings.specs.declared.ArcParam.{ArcParam}
 use Rattle.meetings.specs.declared.ArcParam.the-variants.{StartMatched, EndMatched}
+use Rattle.meetings.specs.declared.Param.the-variants.{Usable}
+use Rattle.meetings.specs.declared.ArcRule.the-variants.{NoRule}
 use Rattle.meetings.specs.declared.Met.{Met}
 use Rattle.meetings.specs.declared.Met.the-variants.{At, NoMeeting, CandidatesMissed}
 use Rattle.meetings.specs.declared.SeenArc.{SeenArc}
@@ -18,6 +20,7 @@ use Rattle.meetings.specs.declared.SeenMet.{SeenMet}
 use Rattle.angles.specs.Angle.{angleOf}
 use Rattle.meetings.specs.Params.{usableLineParam, traveled, sweptParam, usableArcParam, arcParam}
 use Rattle.meetings.specs.Meetings.{metWhere, lineArcPoint}
+use Rattle.meetings.specs.Rules.{ruleOf, withRules}
 
 -- what stands for a start angle that no join has seen: a NaN
 unfoldable pub notSeen : Float
@@ -34,6 +37,10 @@ angled a = record { start = a .start; end = a .end; center = a .center; radius =
 -- the same arc, with another start angle seen
 abbrev pub seenAs : Float → SeenArc → SeenArc
 seenAs s a = record { start = a .start; end = a .end; center = a .center; radius = a .radius; sweep = a .sweep; seen = s }
+
+-- p is near neither end of the arc
+abbrev pub OffEnds : SeenArc → Vector2 → Float → Type 0
+OffEnds a p ε = (near p (a .start) ε ≡ false) × (near p (a .end) ε ≡ false)
 
 -- no meeting, and no more seen of an arc's start angle than before
 abbrev pub noMeeting : Float → SeenMet
@@ -54,6 +61,10 @@ unfoldable pub arcParamAt : RawOffsetArc → Vector2 → Float → Float → Arc
 arcParamAt arc point angle ε =
     when near point (arc .start) ε give StartMatched else
     when near point (arc .end) ε give EndMatched else sweptParam arc (traveled arc angle) ε
+
+-- a point at parameter s of a line, with the rule by which the arc lets it in
+abbrev pub lineRuled : RawOffsetArc → Vector2 → Float → Float → Met
+lineRuled arc p s ε = withRules NoRule (ruleOf (usableArcParam arc p ε)) (metWhere p (Usable s) (arcParam (usableArcParam arc p ε)))
 
 -- the candidate at parameter t of the line, where `at` is the line's point there
 unfoldable pub lineArcAt : RawOffsetLine → RawOffsetArc → Float → Vector2 → Float → Met

@@ -23,14 +23,18 @@ returns c =
         next .before .before .param .ensures,
         current .arc-param-at .ensures,
         s .starts-and-point .ensures,
-        s .before .arc-arc-point .ensures,
+        s .before .before .arc-arc-point .ensures .0,
       ));
-      seen = remembered (s .before .before .args .next) (rw (s .starts-and-point .ensures));
+      seen = remembered (s .before .before .before .args .next) (rw (s .starts-and-point .ensures));
     }
+
+current-requires : tie.Need-arc-param-at-requires
+current-requires c κs = (rw (c .starts-and-point .ensures), λ apart. c .before .before .arc-arc-point .ensures .1 apart .0)
+
+next-requires : tie.Need-arc-param-at-requires-2
+next-requires c κs = (rw (c .before .before .before .starts-and-point .ensures), λ apart. c .before .before .before .before .before .arc-arc-point .ensures .1 apart .1)
 
 pub arc-arc-candidate-spec : {M : Type 1} → statement M
 arc-arc-candidate-spec =
     tie.close
-    (tie.spec
-    (λ c κs. tt) (λ c κs. tt) (λ c κs. rw (c .starts-and-point .ensures)) (λ c κs. tt) (λ c κs. tt) (λ c κs. rw (c .before .before .before .starts-and-point .ensures)) (λ c κs. tt) (λ c κs. tt) (λ c κs. tt)
-    returns)
+    (tie.spec (λ c κs. tt) (λ c κs. tt) current-requires (λ c κs. tt) (λ c κs. tt) next-requires (λ c κs. tt) (λ c κs. tt) (λ c κs. tt) returns)

@@ -11,8 +11,8 @@ returns c =
     let asked = c .before .before .before in
     record {
       met = simp (c .met-where .ensures, c .before .rule .ensures, c .before .before .param .ensures, asked .arc-param-at .ensures, asked .before .start-and-point .ensures);
-      seen = remembered (asked .before .before .args .arc) (rw (asked .before .start-and-point .ensures));
+      seen = remembered (asked .before .before .before .args .arc) (rw (asked .before .start-and-point .ensures));
     }
 
 pub with-arc-param-spec : {M : Type 1} → statement M
-with-arc-param-spec = tie.close (tie.spec (λ c κs. tt) (λ c κs. rw (c .start-and-point .ensures)) (λ c κs. tt) (λ c κs. tt) (λ c κs. tt) returns)
+with-arc-param-spec = tie.close (tie.spec (λ c κs. tt) (λ c κs. (rw (c .start-and-point .ensures), c .before .before .pre)) (λ c κs. tt) (λ c κs. tt) (λ c κs. tt) returns)
