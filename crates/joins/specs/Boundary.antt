@@ -1,5 +1,5 @@
 -- The boundary between two offset segments: its cause, where the current span ends and the next one starts, and the connector between them (000's JoinBoundary, with
--- the cause for the class). Definitions only.
+-- the cause for the class). No rule is told as yet: `ruledJoin` (Rules.antt) tells them. Definitions only.
 use lib.Ieee.{Float}
 use Rattle.floats.specs.Binary64.{zero, one}
 use Rattle.vectors.specs.declared.Vector2.{Vector2}
@@ -7,8 +7,6 @@ use Rattle.meetings.specs.declared.ArcRule.the-variants.{NoRule}
 use Rattle.joins.specs.declared.JoinCause.{JoinCause}
 use Rattle.joins.specs.declared.JoinCause.the-variants.{Met}
 use Rattle.joins.specs.declared.JoinBoundary.{JoinBoundary}
-
--- No rule is told as yet: `ruledJoin` (Rules.antt) tells them.
 
 -- both spans whole, with a connector of the given bulge
 abbrev pub connected : JoinCause → Vector2 → Vector2 → Float → JoinBoundary

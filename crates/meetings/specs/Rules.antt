@@ -47,7 +47,7 @@ withRules r q (At m) = At (record { point = m .point; «current_param» = m .«c
 withRules r q NoMeeting = NoMeeting
 withRules r q CandidatesMissed = CandidatesMissed
 
--- a meeting of two segments tells the rules by which they let its own point in: that of the candidate that was taken, moved to an end that is near
+-- A meeting of two segments tells the rules by which they let its own point in. That point is the candidate that was taken, moved to an end that is near.
 unfoldable pub ruled : RawOffsetSeg → RawOffsetSeg → Float → Met → Met
 ruled current next ε (At m) = withRules (ruleAt current (m .point) ε) (ruleAt next (m .point) ε) (At m)
 ruled current next ε NoMeeting = NoMeeting
@@ -73,7 +73,7 @@ FirstPassed r arc p ε =
     let sweep = absOf (arc .sweep) in
     First r (near p (arc .start) ε) (near p (arc .end) ε) (lt sweep (runTo arc p)) (lt ε (arc .radius ⊗ (runTo arc p ⊖ sweep)))
 
--- the parameter that a rule grants the point; that none does is no way to grant one
+-- t is the parameter that the rule grants the point; without a rule nothing is granted
 abbrev pub Grants : ArcRule → RawOffsetArc → Vector2 → Float → Type 0
 Grants NoRule arc p t = ⊥
 Grants StartMatched arc p t = t ≡ zero
