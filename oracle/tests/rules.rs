@@ -4,7 +4,7 @@ use oracle::core::math::Vector2;
 use oracle::generate::{FAMILIES, Random};
 use oracle::stage::Job;
 use oracle::text::read_rules;
-use oracle::traced::parts::{Joined, Side, arc_param, joins, meeting, spans};
+use oracle::traced::parts::{Joined, Meets, Side, arc_param, joins, meeting, spans};
 use oracle::traced::{Pair, Rule, RuleTable, Trace, stage as traced};
 use std::f64::consts::{FRAC_PI_2, FRAC_PI_4, PI, SQRT_2, TAU};
 
@@ -22,6 +22,13 @@ const RING: [f64; 9] = [1.0, 1e-6, 1.0, -1e-6, 0.0, 0.0, 1.0, 1e-6, TAU - 2e-6];
 
 fn granted(arc: &[f64; 9], x: f64, y: f64) -> Option<(f64, Rule)> {
     arc_param(arc, Vector2::new(x, y), EPS)
+}
+
+/// Where two arcs meet whose source segments share (1, 0).
+fn meeting_of(current: [f64; 9], next: [f64; 9]) -> Meets {
+    let shared = Vector2::new(1.0, 0.0);
+    let (met, _) = meeting(&Side::Arc(current), &Side::Arc(next), shared, EPS);
+    met.expect("they meet")
 }
 
 fn job(closed: bool, offset: f64, eps: f64, vertices: &[[f64; 3]]) -> Job {
@@ -126,13 +133,7 @@ fn the_rule_is_that_of_the_point_as_snapped() {
     current[3] = 1.5e-5;
     assert_eq!(granted(&current, 1.0, 0.0), Some((1.0, Rule::Inside)));
     let next = [1.0, 8e-6, 2.0, -1.0, 2.0, 0.0, 1.0, PI, FRAC_PI_2];
-    let (met, _) = meeting(
-        &Side::Arc(current),
-        &Side::Arc(next),
-        Vector2::new(1.0, 0.0),
-        EPS,
-    );
-    let met = met.expect("they meet");
+    let met = meeting_of(current, next);
     assert_eq!([met.at.x, met.at.y], [1.0, 8e-6]);
     let rules = [Rule::EndMatched, Rule::StartMatched];
     assert_eq!(met.rules, rules.map(Some));
@@ -146,13 +147,7 @@ fn the_rule_is_that_of_the_candidate_taken() {
         2.0, -SQRT_2, 1.0, -1.0, 2.0, 0.0, SQRT_2, -FRAC_PI_2, -FRAC_PI_4,
     ];
     assert_eq!(granted(&current, 1.0, 1.0), Some((0.0, Rule::StartMatched)));
-    let (met, _) = meeting(
-        &Side::Arc(current),
-        &Side::Arc(next),
-        Vector2::new(1.0, 0.0),
-        EPS,
-    );
-    let met = met.expect("they meet");
+    let met = meeting_of(current, next);
     assert!((met.at.y + 1.0).abs() < EPS);
     let rules = [Rule::Inside, Rule::EndMatched];
     assert_eq!(met.rules, rules.map(Some));

@@ -4,6 +4,8 @@ use oracle::generate::{
     FAMILIES, Family, Random, Steering, each_close_job, each_short_job, with_a_nan,
 };
 use oracle::stage::Job;
+use oracle::text::read_job;
+use std::io::stdin;
 
 /// One in so many random jobs is handed out again with a NaN in it.
 const PER_NAN: u64 = 20;
@@ -13,6 +15,21 @@ pub fn each_plain_job(seed: u64, random: u64, mut take: impl FnMut(&'static str,
     each_short_job(|job| take("grid", &job));
     each_close_job(|job| take("close grid", &job));
     each_random_job(FAMILIES, seed, random, take);
+}
+
+/// Hands out the jobs of standard input, a row each, and says how many rows are none.
+pub fn each_row(mut take: impl FnMut(&Job)) -> u64 {
+    let mut none = 0;
+    for row in stdin().lines() {
+        let row = row.expect("standard input can be read");
+        if let Some(job) = read_job(&row) {
+            take(&job);
+        } else {
+            println!("no job: {row}");
+            none += 1;
+        }
+    }
+    none
 }
 
 /// Hands out `count` jobs, by turns of each family, some of them once more with a NaN.

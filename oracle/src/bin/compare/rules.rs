@@ -1,7 +1,7 @@
 //! Holds each join of a walk by itself: the proved code's cause, rules and numbers against those of the
 //! traced job, which is held to 000 on the same jobs.
 
-use crate::jobs::{each_plain_job, each_random_job, each_steered_job};
+use crate::jobs::{each_plain_job, each_random_job, each_row, each_steered_job};
 use crate::layers::alike;
 use crate::sides::{TRACED, Tally};
 use oracle::generate::{KEYHOLES, Random};
@@ -11,7 +11,6 @@ use oracle::stage::Job;
 use oracle::text::{any_job_row, bits, read_job};
 use oracle::traced::parts::{Fragment, Joined, joins};
 use oracle::traced::{Rule, RuleTable};
-use std::io::stdin;
 
 /// Differences are printed up to this many.
 const SHOWN: u64 = 10;
@@ -47,15 +46,8 @@ pub fn compare(seed: u64, random: u64, steered: u64) -> bool {
 /// Runs the jobs of standard input.
 pub fn rows() -> bool {
     let mut held = Joins::default();
-    for row in stdin().lines() {
-        let row = row.expect("standard input can be read");
-        let Some(job) = read_job(&row) else {
-            println!("no job: {row}");
-            held.differing += 1;
-            continue;
-        };
-        held.hold("rows", &job);
-    }
+    let none = each_row(|job| held.hold("rows", job));
+    held.differing += none;
     held.agree()
 }
 

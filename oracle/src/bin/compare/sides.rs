@@ -1,11 +1,10 @@
 //! The sides that are held against 000, and the count of what they were asked.
 
-use crate::jobs::{each_plain_job, each_random_job};
+use crate::jobs::{each_plain_job, each_random_job, each_row};
 use crate::newly::Counts;
 use oracle::generate::{KEYHOLES, each_close_job};
 use oracle::stage::{Before, Job, Outcome, Stage};
-use oracle::text::{any_job_row, outcome_row, read_job};
-use std::io::stdin;
+use oracle::text::{any_job_row, outcome_row};
 
 /// What the reference of single joins is held to 000 by.
 pub const TRACED: (&str, Stage) = ("traced", oracle::traced::stage);
@@ -146,16 +145,11 @@ pub fn keyholes(seed: u64, jobs: u64) -> bool {
 /// Runs the jobs of standard input and prints what 000 answers.
 pub fn rows() -> bool {
     let mut tally = Tally::default();
-    for row in stdin().lines() {
-        let row = row.expect("standard input can be read");
-        let Some(job) = read_job(&row) else {
-            println!("no job: {row}");
-            tally.differing += 1;
-            continue;
-        };
+    let none = each_row(|job| {
         println!("{}", outcome_row(&job.run(oracle::job)));
-        tally.hold("rows", &job, SIDES);
-    }
+        tally.hold("rows", job, SIDES);
+    });
+    tally.differing += none;
     tally.print_end();
     tally.differing == 0
 }
