@@ -1,14 +1,25 @@
 -- The two kinds of move, each tagged with the source segment that it belongs to: its span, or the connector after it (000's emit_source_span and emit_join).
 -- Definitions only.
 use Prim.Native.Nat.{ℕ}
+use mathlib.Core.Bool.{Bool, true, false}
 use lib.Ieee.{Float}
 use Rattle.vectors.specs.declared.Vector2.{Vector2}
 use Rattle.segments.specs.declared.RawOffsetSeg.{RawOffsetSeg}
 use Rattle.segments.specs.Segment.{spanBulge}
 use Rattle.joins.specs.declared.JoinBoundary.{JoinBoundary}
 use Rattle.moves.specs.declared.Move.{Move}
+use Rattle.moves.specs.declared.Origin.{Origin}
 use Rattle.moves.specs.declared.Origin.the-variants.{Span, Connector}
 use Rattle.moves.specs.Reason.{spanReason, connectorReason}
+
+-- the number of that segment, and whether it is the connector
+abbrev pub segmentOf : Origin → ℕ
+segmentOf (Span i) = i .0
+segmentOf (Connector i) = i .0
+
+abbrev pub isConnector : Origin → Bool
+isConnector (Span i) = false
+isConnector (Connector i) = true
 
 -- the span of segment i between two parameters: its bulge goes by its sweep
 unfoldable pub spanMove : ℕ → RawOffsetSeg → Float → Vector2 → Float → Move

@@ -2,10 +2,10 @@
 ghost use mathlib.Core.Path.{_≡_};
 ghost use Prim.Native.Nat.{_+_, _^_, _<_};
 ghost use Rattle.floats.specs.Binary64.{zero};
-ghost use Rattle.floats.specs.Choice.{when_give_else_};
+ghost use Rattle.floats.specs.Choice.{when_give_else_, _and_};
 ghost use Rattle.segments.specs.InnerSteps.{fullSeg};
-ghost use Rattle.moves.specs.Reason.{spanReason, connectorReason, isInvalid};
-ghost use Rattle.moves.specs.Made.{spanMove, connectorMove};
+ghost use Rattle.moves.specs.Reason.{reasonNumber, spanReason, connectorReason, isInvalid};
+ghost use Rattle.moves.specs.Made.{segmentOf, isConnector, spanMove, connectorMove};
 ghost use Rattle.moves.specs.Drawing.{finiteVertex, emptyResult};
 ghost use Rattle.moves.specs.InnerSteps.{penAt, penAfter, stepOf, withBulge, doubtOf};
 use joins::JoinBoundary;
@@ -22,7 +22,27 @@ pub enum Origin {
     Connector(SourceSegment),
 }
 
-// Why a move's flag is set or clear.
+impl Origin {
+    pub fn source(self) -> SourceSegment
+        ensures { λ r. ⌜ r .0 ≡ segmentOf self ⌝ }
+    {
+        match self {
+            Origin::Span(source) => source,
+            Origin::Connector(source) => source,
+        }
+    }
+
+    pub fn is_connector(self) -> bool
+        ensures { λ r. ⌜ r ≡ isConnector self ⌝ }
+    {
+        match self {
+            Origin::Span(_) => false,
+            Origin::Connector(_) => true,
+        }
+    }
+}
+
+// Why a move's flag is set or clear. A walk makes no copy: that is of an offset of zero.
 pub enum Reason {
     InOrder,
     TurnedBack,
@@ -35,9 +55,30 @@ pub enum Reason {
     CandidatesMissed,
     ZeroTangent,
     SameDirection,
+    Copied,
 }
 
 impl Reason {
+    // 02's number of it (2026-01).
+    pub fn number(self) -> u32
+        ensures { λ r. ⌜ r ≡ reasonNumber self ⌝ }
+    {
+        match self {
+            Reason::InOrder => 1,
+            Reason::TurnedBack => 2,
+            Reason::CollapsedArc => 3,
+            Reason::Round => 4,
+            Reason::Reversal => 5,
+            Reason::Meeting => 6,
+            Reason::CollapsedSide => 7,
+            Reason::NoMeeting => 8,
+            Reason::CandidatesMissed => 9,
+            Reason::ZeroTangent => 10,
+            Reason::SameDirection => 11,
+            Reason::Copied => 12,
+        }
+    }
+
     pub fn is_invalid(self) -> bool
         ensures { λ r. ⌜ r ≡ isInvalid self ⌝ }
     {
@@ -53,6 +94,7 @@ impl Reason {
             Reason::CandidatesMissed => true,
             Reason::ZeroTangent => true,
             Reason::SameDirection => true,
+            Reason::Copied => false,
         }
     }
 
@@ -221,6 +263,16 @@ impl Pen {
             pen,
         }
     }
+}
+
+// With no second test: both are worked out already.
+pub fn both(a: bool, b: bool) -> bool
+    ensures { λ r. ⌜ r ≡ (a and b) ⌝ }
+{
+    if a {
+        return b;
+    }
+    false
 }
 
 // +0 where the three numbers are finite, and else a NaN: a difference of a number and itself is that.

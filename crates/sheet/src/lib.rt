@@ -57,15 +57,6 @@ impl Places {
     }
 }
 
-fn both(a: bool, b: bool) -> bool
-    ensures { λ r. ⌜ r ≡ (a and b) ⌝ }
-{
-    if a {
-        return b;
-    }
-    false
-}
-
 // The three numbers of a vertex, at place k.
 fn put_vertex(vertices: &mut [f64], k: usize, v: PlineVertex)
     requires { ⌜ 3 * k + 3 ≤ length (now vertices) ⌝ }
@@ -203,8 +194,8 @@ fn store_turn(
     let pen = walk.pen;
     let drawing = walk.leading == 0;
     let first = pen.step(turned.span, eps);
-    let drawn = both(drawing, first.kept);
-    let due = both(turned.curved, drawn);
+    let drawn = moves::both(drawing, first.kept);
+    let due = moves::both(turned.curved, drawn);
     let later = Later {
         due,
         place: places.strokes,
@@ -212,7 +203,7 @@ fn store_turn(
     };
     let half = store(vertices, flags, indexes, places, drawn, first.stroke);
     let second = first.pen.step(turned.connector, eps);
-    let drawn = both(drawing, second.kept);
+    let drawn = moves::both(drawing, second.kept);
     let places = store(vertices, flags, indexes, half, drawn, second.stroke);
     let pen = second.pen;
     Left { pen, places, later }
@@ -584,7 +575,7 @@ fn draw_last(
 {
     let walk = sheet.walk;
     let current = walk.current;
-    if both(alone, current.is_collapsed()) {
+    if moves::both(alone, current.is_collapsed()) {
         wipe(vertices, flags, indexes, room, 0, 0, 0);
         return Built::Done(RawOffsetResult::empty());
     }
