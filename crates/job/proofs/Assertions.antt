@@ -46,7 +46,7 @@ unfolding goodEps inside lt ofBits
 eps-above ε h = passes (lt zero ε) .1 (lt-le-through zero leastEps ε tt (passes (le leastEps ε) .0 (both-pass (le leastEps ε) (le ε mostEps) .0 h .0)))
 
 module _ (j : Job) (numbers : Numbers j) where
-  above : lt zero (j .settings .eps) ≡ true
+  pub above : lt zero (j .settings .eps) ≡ true
   unfolding numberTests
   above =
       let good = goodEps (j .settings .eps) in

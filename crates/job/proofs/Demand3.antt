@@ -28,6 +28,7 @@ use Rattle.walk.specs.Walk.{walkStart, walkMoves, walkDrawing, loneCollapsed, d
 use Rattle.walk.proofs.Lengths.{drawing-fits}
 use Rattle.walk.proofs.Connectors.{connectors-bound}
 use Rattle.walk.proofs.Ends.{Closes, closed-ends}
+use Rattle.walk.proofs.Unmet.{never-one}
 use Rattle.job.specs.Verdict.{drawn}
 use Rattle.job.specs.Job.{result, placed}
 use Rattle.job.specs.Rows.{Job, outcome, places}
@@ -51,11 +52,6 @@ module _ (σ : Settings) (a b : PlineVertex) (vs : List PlineVertex) where
   abbrev the-drawing : Bool → Drawing
   the-drawing closed = walkDrawing closed σ a b vs
 
-  never-one : length (chosen true) ≡ 1 → ⊥
-  never-one n =
-      let e = closed-ends σ a b vs in
-      closed-never-one (σ .eps) (start true) (e .ends .before) (e .ends .closing) (e .ends .home) (e .some) (ap (λ (ms : List Move). length (kept (σ .eps) (start true) ms)) (sym (e .ends .last)) ∙ n)
-
   pub walk-sound : (closed : Bool) → Sound (σ .eps) (chosen closed) (the-drawing closed)
   unfolding walkDrawing when_give_else_
   walk-sound true =
@@ -71,12 +67,12 @@ module _ (σ : Settings) (a b : PlineVertex) (vs : List PlineVertex) where
 
   mark : (closed : Bool) → 0 < length (chosen closed) → the-drawing closed .closed ≡ closed
   unfolding walkDrawing when_give_else_
-  mark true h = ap (λ (d : Drawing). d .closed) (closed-some (start true) (chosen true) (at-least-two (length (chosen true)) h never-one))
+  mark true h = ap (λ (d : Drawing). d .closed) (closed-some (start true) (chosen true) (at-least-two (length (chosen true)) h (never-one σ a b vs)))
   mark false h = open-mark (start false) (chosen false)
 
   bulge : (closed : Bool) (m : Move) → allFinite (the-drawing closed .vertices) ≡ true → List·Memᴰ m (chosen closed) → finite (m .bulge) ≡ true
   unfolding walkDrawing when_give_else_
-  bulge true m h i = closed-bulge (start true) (chosen true) m never-one h i
+  bulge true m h i = closed-bulge (start true) (chosen true) m (never-one σ a b vs) h i
   bulge false m h i = open-bulge (start false) (chosen false) m h i
 
   against : (closed : Bool) (m : Move) (i : SourceSegment) → allFinite (the-drawing closed .vertices) ≡ true → List·Memᴰ m (chosen closed) → m .origin ≡ Connector i → Against (σ .offset) (m .bulge)

@@ -58,7 +58,7 @@ row n p ks l = record {
   };
 }
 
-swap : (a b c : Bool) → (a and (b and c)) ≡ (b and a and c)
+pub swap : (a b c : Bool) → (a and (b and c)) ≡ (b and a and c)
 unfolding _and_
 swap true true c = refl
 swap true false c = refl
@@ -102,7 +102,7 @@ drawnOver p ks old =
 over-all : {A : Type 0} (xs old : List A) → length xs ≤ length old → sets old 0 xs ≡ over xs old
 over-all xs old h = sets-eq xs old 0 (rw zero-add h) ∙ rw zero-add
 
-and-true : (a : Bool) → (a and true) ≡ a
+pub and-true : (a : Bool) → (a and true) ≡ a
 unfolding _and_
 and-true true = refl
 and-true false = refl

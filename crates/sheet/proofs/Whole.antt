@@ -27,12 +27,11 @@ use Rattle.moves.specs.InnerSteps.{stepOf, strokes, Fits}
 use Rattle.moves.proofs.Kept.{length-kept}
 use Rattle.moves.proofs.Lists.{length-corners, length-flagsOf}
 use Rattle.moves.proofs.Shapes.{path, path-fits, ray, length-ray, ray-fits, nothing-fits}
-use Rattle.moves.proofs.Drawn.{closed-never-one}
 use Rattle.joins.specs.declared.JoinBoundary.{JoinBoundary}
 use Rattle.walk.specs.Walk.{closingJoin, walkStart, walkMoves, walkDrawing, loneCollapsed, drawingOf}
 use Rattle.walk.specs.InnerSteps.{stands, Stood, stood, Fit, standingAt, spanTo, lastSpan, drawnBy, turnStrokes, advance, goes, drawnOn}
 use Rattle.walk.proofs.Around.{open-led, open-drawn, open-current, ledIn, closed-led, closed-undrawn, closed-drawn}
-use Rattle.walk.proofs.Ends.{closed-ends}
+use Rattle.walk.proofs.Unmet.{never-one}
 use Rattle.walk.proofs.Lengths.{open-length, closed-most}
 use Rattle.sheet.specs.declared.Places.{Places}
 use Rattle.sheet.specs.declared.Sheet.{Sheet}
@@ -79,7 +78,7 @@ unfolding builtOf allFinite when_give_else_ flat
 built-nothing room old = rw (written-whole room nothing old (nothing-fits room))
 
 -- ---- the two finishes
-finite-snoc : (vs : List PlineVertex) (v : PlineVertex) → allFinite (vs ++ v ∷ []) ≡ (finiteVertex v and allFinite vs)
+pub finite-snoc : (vs : List PlineVertex) (v : PlineVertex) → allFinite (vs ++ v ∷ []) ≡ (finiteVertex v and allFinite vs)
 unfolding allFinite
 finite-snoc [] v = refl
 finite-snoc (u ∷ vs) v = ap (λ (t : Bool). finiteVertex u and t) (finite-snoc vs v) ∙ swap (finiteVertex u) (finiteVertex v) (allFinite vs)
@@ -122,7 +121,7 @@ advances-drawn closed σ (c ∷ vs) r =
     advances-drawn closed σ vs (advanced closed σ c r) ∙ rw (stores-append (a .strokes) (drawnOn closed σ vs (a .stood)) (r .laid))
 
 -- ---- a lone segment: the turn that leads to it draws nothing
-lone-is : (σ : Settings) (a b : PlineVertex) (vs : List PlineVertex)
+pub lone-is : (σ : Settings) (a b : PlineVertex) (vs : List PlineVertex)
     → (eqb (length vs + 2) 2 and isCollapsed (goes false σ (b ∷ vs) (standingAt a 1) .walker .current)) ≡ loneCollapsed false σ (a ∷ b ∷ vs)
 unfolding loneCollapsed _and_
 lone-is σ a b [] = rw open-current
@@ -227,12 +226,6 @@ module _ (σ : Settings) (s : List Float) (v : ℕ) (old : Buffers) (sheet : She
         sym (stores-append (drawnOn true σ around first) _ (laid noPlaces old)) ∙ rw (closed-drawn σ (vertexOf s 0) (vertexOf s 1) (rest s))
         (stores-drawn (start true σ s) (moves true σ s) old (omega (arith, ready .vertices)) (omega (arith, ready .flags)) (omega (arith, ready .indexes)))
 
-    never-one : length (moves true σ s) ≡ 1 → ⊥
-    never-one =
-        let c = closed-ends σ (vertexOf s 0) (vertexOf s 1) (rest s) in
-        let e = c .ends in
-        rw (e .last) (closed-never-one (σ .eps) (start true σ s) (e .before) (e .closing) (e .home) (c .some))
-
     closed-drawing : drawnClosed (start true σ s) (moves true σ s) ≡ drawingOf true σ (verticesOf s)
     unfolding drawingOf loneCollapsed walkDrawing when_give_else_
     closed-drawing = ap (drawingOf true σ) (sym (first-two s v (ready .long) (ready .two)))
@@ -246,7 +239,7 @@ module _ (σ : Settings) (s : List Float) (v : ℕ) (old : Buffers) (sheet : She
     unfolding closes
     closed-closes =
         ap (λ (l : Laid). finishes (2 * v) (record { vertices = l .places .strokes; indexes = l .places .marks; closed = not (eqb (l .places .strokes) 0) }) l) closed-laid
-        ∙ closed-finish (2 * v) (start true σ s) (moves true σ s) old never-one closed-few
+        ∙ closed-finish (2 * v) (start true σ s) (moves true σ s) old (never-one σ (vertexOf s 0) (vertexOf s 1) (rest s)) closed-few
         ∙ rw closed-drawing
 
     pub closed-built : closes (2 * v) (sheet .walk .entry) (σ .eps) (advances true σ (routed v (v - 1) (nextOf v 1) s) (trail sheet b)) ≡ builtOf (2 * v) (drawingOf true σ (verticesOf s)) old

@@ -4,4 +4,6 @@ pub mod Around
 pub mod Connectors
 pub mod Ends
 pub mod Lengths
+pub mod Branches
+pub mod Unmet
 pub mod Samples

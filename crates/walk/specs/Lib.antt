@@ -1,2 +1,4 @@
 pub mod Walk
+pub mod Spans
+pub mod Branches
 pub mod InnerSteps
