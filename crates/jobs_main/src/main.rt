@@ -3,12 +3,14 @@
 // how many numbers the source has, closed, offset, tolerance, and how many numbers, flags and
 // indexes are lent; then the source. The jobs at the limit of vertices are made here. The stored
 // output comes from 000 over 01's arithmetic in Rust (`oracle`, `samples`).
-ghost use Prim.Native.Nat.{_≤_};
 use job::RawOffsetAnswer;
 use moves::RawOffsetResult;
 use segments::Settings;
+use words::least;
 use words::print;
 use words::print_word;
+use words::read_number;
+use words::read_word;
 
 // What stands in each buffer before a job.
 const NUMBER_BEFORE: f64 = -7.25;
@@ -28,17 +30,6 @@ struct Lent {
     indexes: usize,
 }
 
-// The next word of the input; what lies past its end is zero.
-fn read_word() -> u64 {
-    let mut b = [0u8; 8];
-    let _read = io::read_full(0, &mut b);
-    words::word(&b, 0)
-}
-
-fn read_number() -> f64 {
-    bits::number_of(read_word())
-}
-
 fn print_count(n: u64) {
     print(b" ");
     let _written = io::print_decimal(1, n);
@@ -47,12 +38,6 @@ fn print_count(n: u64) {
 fn print_sum(sum: u64) {
     print(b" sum");
     print_word(sum);
-}
-
-fn least(a: usize, b: usize) -> usize
-    ensures { λ r. ⌜ r ≤ b ⌝ }
-{
-    if a < b { a } else { b }
 }
 
 // A checksum that tells places apart: before each word the sum is added to itself turned by five.
@@ -170,13 +155,6 @@ fn job(
     print_outcome(answer, vertices, flags, indexes);
 }
 
-// Reads the source that follows a row's first words.
-fn read_source(count: usize, source: &mut [f64]) {
-    for i in 0..least(count, source.len()) {
-        source[i] = read_number();
-    }
-}
-
 // A stored row: at most 42 vertices.
 fn row() {
     let mut source = [0.0; 128];
@@ -195,7 +173,7 @@ fn row() {
         flags: read_word() as usize,
         indexes: read_word() as usize,
     };
-    read_source(count, &mut source);
+    words::read_numbers(count, &mut source);
     job(
         lent,
         &source,

@@ -1,7 +1,7 @@
 -- The loop over the bytes of a number, eight at most. Assumes nothing.
 use mathlib.Core.Path.{_≡_, refl, ap, _∙_}
 use mathlib.Core.List.{List}
-use Prim.Native.Nat.{ℕ, suc, _+_, _*_, _^_, _<_, _≤_}
+use Prim.Native.Nat.{ℕ, zero, suc, _+_, _*_, _^_, _<_, _≤_}
 use native.Mathlib.Nat.{pow-suc, pow-le-pow-right}
 use native.Mathlib.Numerals.{add-one}
 use native.Mathlib.Omega.{arith}
@@ -38,3 +38,9 @@ module _ {bytes : List ℕ} {at count : ℕ} where
 
   pub reading-done : {word k : ℕ} → Reading bytes at count word k → count ≤ k → word ≡ bigEndian bytes at count
   reading-done {word} {k} w d = let n : k ≡ count = omega arith in w .so-far ∙ ap (λ j. bigEndian bytes at j) n
+
+-- of bytes, the number is as small as their count says
+pub big-endian-small : (bytes : List ℕ) → ((i : ℕ) → getD bytes i 0 < 256) → (at k : ℕ) → bigEndian bytes at k < 256 ^ k
+unfolding bigEndian
+big-endian-small bytes byte at zero = omega arith
+big-endian-small bytes byte at (suc k) = more (bigEndian bytes at k) (getD bytes (at + k) 0) k (big-endian-small bytes byte at k) (byte (at + k))

@@ -2,7 +2,9 @@
 // and how the programs over stored samples print.
 ghost use mathlib.Core.Path.{_≡_};
 ghost use Prim.Native.Nat.{_+_, _*_, _≤_, _<_};
+ghost use lib.Dec.{ltb};
 ghost use lib.ListN.{length};
+ghost use Rattle.floats.specs.Choice.{when_give_else_};
 ghost use Rattle.words.specs.Words.{bigEndian, numberAt};
 ghost use Rattle.words.specs.InnerSteps.{vectorAt};
 use vectors::Vector2;
@@ -59,6 +61,31 @@ pub fn vector(row: &[u8], k: usize) -> Vector2
     Vector2 {
         x: number_at(row, at),
         y: number_at(row, at + 8),
+    }
+}
+
+// The next word of standard input; what lies past its end is zero.
+pub fn read_word() -> u64 {
+    let mut b = [0u8; 8];
+    let _read = io::read_full(0, &mut b);
+    word(&b, 0)
+}
+
+pub fn read_number() -> f64 {
+    bits::number_of(read_word())
+}
+
+pub fn least(a: usize, b: usize) -> usize
+    ensures { λ r. ⌜ r ≡ when ltb a b give a else b ⌝ }
+    ensures { λ r. ⌜ r ≤ b ⌝ }
+{
+    if a < b { a } else { b }
+}
+
+// So many numbers of it, or as many as there are places.
+pub fn read_numbers(count: usize, numbers: &mut [f64]) {
+    for i in 0..least(count, numbers.len()) {
+        numbers[i] = read_number();
     }
 }
 

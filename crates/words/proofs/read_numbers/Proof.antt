@@ -4,17 +4,17 @@ use Prim.Native.Nat.{_≤_, _-_}
 use lib.ListN.{length, length-set}
 use borrow.Author.Needs.{needs}
 use native.Mathlib.Omega.{arith}
-use Rattle.jobs_main.proofs.read_source.Statement.{statement}
-use Rattle.jobs_main.proofs.read_source.Tie as tie
+use Rattle.words.proofs.read_numbers.Statement.{statement}
+use Rattle.words.proofs.read_numbers.Tie as tie
 
 abbrev Inv-loop : tie.InvT-loop
-Inv-loop count source₀ i₀ i-end source i = (i ≤ i-end) × (i-end ≤ length source) × (length source ≡ length source₀)
+Inv-loop count numbers₀ i₀ i-end numbers i = (i ≤ i-end) × (i-end ≤ length numbers) × (length numbers ≡ length numbers₀)
 
 abbrev μ-loop : tie.MeasureT-loop
-μ-loop count source₀ i₀ i-end source i = i-end - i
+μ-loop count numbers₀ i₀ i-end numbers i = i-end - i
 
-pub read-source-spec : {M : Type 1} → statement M
-read-source-spec =
+pub read-numbers-spec : {M : Type 1} → statement M
+read-numbers-spec =
     tie.close
     (tie.spec
     Inv-loop
