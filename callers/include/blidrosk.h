@@ -1,9 +1,11 @@
 /*
  * Blidrosk: the raw offset of a drawing of lines and arcs, for cutting tables.
  *
- * One function, which keeps nothing between calls, allocates nothing, and ends at any numbers, NaN
- * and infinities included. Link libblidrosk.a, which tools/archive makes. Of the C library it takes
- * memset, and nothing else.
+ * Two functions: blidrosk_raw_offset offsets a drawing and flags the invalid segments of the
+ * output, and blidrosk_why tells of one output segment what it is and why its flag is set or clear.
+ * They keep nothing between calls, allocate nothing, and end at any numbers, NaN and infinities
+ * included. Link libblidrosk.a, which tools/archive makes. Of the C library it takes memset, and
+ * nothing else.
  */
 #ifndef BLIDROSK_H
 #define BLIDROSK_H
@@ -24,10 +26,12 @@ enum blidrosk_number {
     BLIDROSK_BAD_NUMBER = 3, /* a NaN, an infinity, or a number out of its range, at `place` */
     BLIDROSK_NO_ROOM = 4,    /* a buffer is too short */
     BLIDROSK_REPEATED = 5,   /* joined vertices equal in x and in y, the earlier at `place` */
-    BLIDROSK_NOT_FINITE = 6  /* the drawing came out with a NaN or an infinity */
+    BLIDROSK_NOT_FINITE = 6, /* the drawing came out with a NaN or an infinity */
+    /* 7 is the program rawoffset's own */
+    BLIDROSK_NO_SUCH_SEGMENT = 8 /* blidrosk_why: the output has no segment of that number */
 };
 
-/* Where the five entries of `answer` stand. */
+/* Where the five entries of blidrosk_raw_offset's `answer` stand. */
 enum blidrosk_entry {
     BLIDROSK_NUMBER = 0,   /* an enum blidrosk_number */
     BLIDROSK_PLACE = 1,    /* for numbers 3 and 5; 0 otherwise */
@@ -96,6 +100,66 @@ uint32_t blidrosk_raw_offset(const double *source, size_t source_len, bool close
                              double eps, double *vertices, size_t vertices_len, uint8_t *flags,
                              size_t flags_len, uint32_t *indexes, size_t indexes_len,
                              uint32_t answer[5]);
+
+/* Why the flag of an output segment is set or clear. It is set for 2, 3 and 7 to 11. */
+enum blidrosk_reason {
+    BLIDROSK_IN_ORDER = 1,        /* a span that runs forward */
+    BLIDROSK_TURNED_BACK = 2,     /* a span whose end is not past its start; `params` has both */
+    BLIDROSK_COLLAPSED_ARC = 3,   /* the span of an arc that the offset shrinks to nothing */
+    BLIDROSK_ROUND = 4,           /* a round connector at an outer corner */
+    BLIDROSK_REVERSAL = 5,        /* a round connector where the drawing turns back on itself */
+    BLIDROSK_MEETING = 6,         /* a connector where the spans meet: no output has one */
+    BLIDROSK_COLLAPSED_SIDE = 7,  /* a gap at an inner corner: a side is a collapsed arc */
+    BLIDROSK_NO_MEETING = 8,      /* a gap at an inner corner: the sides never meet */
+    BLIDROSK_MISSED = 9,          /* a gap at an inner corner: the sides meet off a span */
+    BLIDROSK_ZERO_TANGENT = 10,   /* a gap where a side is too small to have a direction */
+    BLIDROSK_SAME_DIRECTION = 11, /* a gap where both sides run the same way */
+    BLIDROSK_COPIED = 12          /* the offset is zero: a segment of the source as it is */
+};
+
+/* How an arc let in the point where its span was trimmed. */
+enum blidrosk_rule {
+    BLIDROSK_NO_RULE = 0,       /* not trimmed there, or no arc */
+    BLIDROSK_START_MATCHED = 1, /* within eps of the arc's start */
+    BLIDROSK_END_MATCHED = 2,   /* within eps of the arc's end */
+    BLIDROSK_INSIDE = 3,        /* inside the arc's sweep */
+    BLIDROSK_PAST_END = 4       /* past the arc's end by no more than eps */
+};
+
+/* Where the seven entries of blidrosk_why's `answer` stand. */
+enum blidrosk_why_entry {
+    BLIDROSK_WHY_NUMBER = 0,    /* an enum blidrosk_number */
+    BLIDROSK_WHY_PLACE = 1,     /* for numbers 3 and 5; 0 otherwise */
+    BLIDROSK_WHY_CONNECTOR = 2, /* 0 for a span, 1 for a connector */
+    BLIDROSK_WHY_SOURCE = 3,    /* the source segment: its span, or the connector after it */
+    BLIDROSK_WHY_REASON = 4,    /* an enum blidrosk_reason */
+    BLIDROSK_WHY_START = 5,     /* an enum blidrosk_rule, at a span's start; else 0 */
+    BLIDROSK_WHY_END = 6        /* an enum blidrosk_rule, at a span's end; else 0 */
+};
+
+/*
+ * Tells of output segment `segment` of a job what it is and why its flag is set or clear. Returns
+ * the number of the answer, which is answer[0] too. Source, closed, offset and eps are those of
+ * blidrosk_raw_offset, which would store that segment's flag in flags[segment].
+ *
+ *   segment    the number of an output segment, from 0
+ *   answer     receives seven numbers, as enum blidrosk_why_entry says
+ *   params     receives, where the reason is 2, how far along its segment the span starts and ends:
+ *              0 is the segment's start and 1 its end. Else both are 0.
+ *
+ * Source segment i leaves source vertex i. A connector belongs to the segment before it; one that
+ * belongs to the last segment closes the drawing.
+ *
+ * Refusals are those of blidrosk_raw_offset but 4, since no buffer is lent, and in the same order;
+ * then 8 where the output has no such segment, as for a source of fewer than two vertices. After a
+ * refusal all of answer and params but number and place is 0.
+ *
+ * A call walks the whole job once. A caller owes what blidrosk_raw_offset asks: source is good for
+ * source_len numbers to read, answer for seven and params for two to read and write, and neither
+ * overlaps the other or source.
+ */
+uint32_t blidrosk_why(const double *source, size_t source_len, bool closed, double offset,
+                      double eps, uint32_t segment, uint32_t answer[7], double params[2]);
 
 #ifdef __cplusplus
 }

@@ -1,8 +1,11 @@
-//! The one function of the archive, as `callers/include/blidrosk.h` declares it; a caller's duties
-//! stand there.
+//! The two functions of the archive, as `callers/include/blidrosk.h` declares them; a caller's
+//! duties stand there.
 
 /// Number, place, count of vertices, count of indexes, and 1 where the drawing is closed.
 pub type Numbers = [u32; 5];
+
+/// Number, place, 1 for a connector, source segment, reason, and the rules at a span's two ends.
+pub type WhyNumbers = [u32; 7];
 
 unsafe extern "C" {
     pub fn blidrosk_raw_offset(
@@ -18,5 +21,16 @@ unsafe extern "C" {
         indexes: *mut u32,
         indexes_len: usize,
         answer: *mut Numbers,
+    ) -> u32;
+
+    pub fn blidrosk_why(
+        source: *const f64,
+        source_len: usize,
+        closed: bool,
+        offset: f64,
+        eps: f64,
+        segment: u32,
+        answer: *mut WhyNumbers,
+        params: *mut [f64; 2],
     ) -> u32;
 }

@@ -14,6 +14,19 @@
 //! assert_eq!(drawing.indexes, [1]);
 //! ```
 //!
+//! [`why`](why()) tells of an output segment which source segment it belongs to, and why its flag is
+//! set or clear.
+//!
+//! ```
+//! # let source = [0.0, 0.0, 0.0, 4.0, 0.0, 0.0, 4.0, 1.0, 0.0];
+//! let gap = blidrosk::why(&source, false, 2.0, 1e-5, 1).expect("a good job");
+//! assert_eq!(
+//!     gap.to_string(),
+//!     "the connector after source segment 0 bridges a gap at an inner corner: \
+//!      the sides meet only past an end of one of them"
+//! );
+//! ```
+//!
 //! # Nearly full circles and the tolerance
 //!
 //! An output segment that would end less than the tolerance from where it starts, in x and in y, is
@@ -37,9 +50,11 @@
 
 mod archive;
 mod refusal;
+mod why;
 
 use archive::{Numbers, blidrosk_raw_offset};
 pub use refusal::{Bad, Refusal};
+pub use why::{Origin, Reason, Rule, Why, why};
 
 /// The most vertices that a source may have.
 pub const MOST_VERTICES: usize = 4096;

@@ -3,8 +3,10 @@
 use std::error::Error;
 use std::fmt;
 
-/// Why a job is refused. Where several apply, the first of them is given.
+/// Why a job is refused. Where several apply, the first of them is given. More may come with
+/// functions that are still to come.
 #[derive(Clone, Copy, Debug, PartialEq, Eq)]
+#[non_exhaustive]
 pub enum Refusal {
     /// The source's length is no multiple of 3.
     Ragged,
@@ -19,6 +21,8 @@ pub enum Refusal {
     Repeated(usize),
     /// The drawing came out with a NaN or an infinity.
     NotFinite,
+    /// The output has no segment of the number that [`why`](crate::why()) was asked for.
+    NoSuchSegment,
 }
 
 /// Which number is bad.
@@ -41,7 +45,8 @@ impl Refusal {
             4 => Refusal::NoRoom,
             5 => Refusal::Repeated(place),
             6 => Refusal::NotFinite,
-            _ => unreachable!("the archive answers no number above 6"),
+            8 => Refusal::NoSuchSegment,
+            _ => unreachable!("the archive answers no 7, and no number above 8"),
         })
     }
 }
@@ -75,6 +80,9 @@ impl fmt::Display for Refusal {
                 "vertex {k} and the one after it are the same point: leave one of them out"
             ),
             Refusal::NotFinite => f.write_str("the offset drawing has a number that is not finite"),
+            Refusal::NoSuchSegment => {
+                f.write_str("the offset drawing has no segment of that number")
+            }
         }
     }
 }
