@@ -11,7 +11,7 @@ use lib.Seq.{length-take-le, sets}
 use Rattle.io.specs.Counts.{Counts}
 use lib.Ieee.{Float, binary64, toBits}
 use Rattle.floats.proofs.Choice.{yes, no}
-use Rattle.packed.specs.Text.{_then_, decimalOf, hexOf, space, lineEnd, wordOf, headOf, lineOf, lineAt, linesOf, textOf, printedOf}
+use Rattle.packed.specs.Text.{_then_, decimalOf, hexOf, space, lineEnd, wordOf, headOf, lineOf, lineAt, linesOf, textOf, printedOf, threeOf, pairOf, toldOf}
 use Rattle.packed.proofs.Writing.{sets-next, sets-front, place-next}
 use Rattle.packed.proofs.Digits.{length-digits, length-then}
 
@@ -31,6 +31,14 @@ two-rows l₀ xs ys {l₁} {l₂} {i} {j} e p q r h =
     let n : j ≡ length (xs ++ ys) = omega (arith, length-append xs ys) in
     shown (xs ++ ys) l₀ l₂ j n (sets-next l₀ 0 xs ys e s q ∙ sets-front l₀ (xs ++ ys) (omega arith) ∙ ap (λ k. (xs ++ ys) ++ drop k l₀) (sym n))
 
+-- three rows, from some place on, and the place past them
+three-rows : (l₀ : List ℕ) (at : ℕ) (xs ys zs : List ℕ) {l₁ l₂ l₃ : List ℕ} {i j k : ℕ} →
+    l₁ ≡ sets l₀ at xs → i ≡ at + length xs → l₂ ≡ sets l₁ i ys → j ≡ i + length ys → l₃ ≡ sets l₂ j zs → k ≡ j + length zs →
+    (k ≡ at + length (xs ++ ys ++ zs)) × (l₃ ≡ sets l₀ at (xs ++ ys ++ zs))
+three-rows l₀ at xs ys zs e p f q g r =
+    let s = place-next at xs ys p q in
+    (place-next at (xs ++ ys) zs s r, sets-next l₀ at (xs ++ ys) zs (sets-next l₀ at xs ys e p f) s g)
+
 -- ---- the first line
 
 pub head : (count : ℕ) (closed : Bool) (l₀ : List ℕ) {l₁ l₂ l₃ : List ℕ} {i j k : ℕ} →
@@ -40,11 +48,8 @@ pub head : (count : ℕ) (closed : Bool) (l₀ : List ℕ) {l₁ l₂ l₃ : Lis
     (k ≡ length (headOf count closed)) × (l₃ ≡ sets l₀ 0 (headOf count closed))
 unfolding headOf
 head count closed l₀ e p f q g r =
-    let a = decimalOf 0 then space in
-    let b = decimalOf count then space in
-    let w = wordOf closed then lineEnd in
-    let s = place-next 0 a b p q in
-    (place-next 0 (a ++ b) w s r ∙ zero-add _, sets-next l₀ 0 (a ++ b) w (sets-next l₀ 0 a b e p f) s g)
+    let h = three-rows l₀ 0 (decimalOf 0 then space) (decimalOf count then space) (wordOf closed then lineEnd) e p f q g r in
+    (h .0 ∙ zero-add _, h .1)
 
 -- ---- the line of a vertex
 
@@ -52,8 +57,8 @@ length-hex : (x : Float) → length (hexOf x) ≡ 16
 unfolding hexOf
 length-hex x = length-digits 16 16 (toBits binary64 x)
 
-length-number : (x : Float) → length (hexOf x then space) ≡ 17
-length-number x = length-then (hexOf x) space ∙ ap (λ k. k + 1) (length-hex x)
+length-number : (x : Float) (e : ℕ) → length (hexOf x then e) ≡ 17
+length-number x e = length-then (hexOf x) e ∙ ap (λ k. k + 1) (length-hex x)
 
 pub length-line : (x y b : Float) (mark : ℕ) → length (lineOf x y b mark) ≡ 53
 unfolding lineOf
@@ -64,9 +69,9 @@ pub line : (x y b : Float) (mark : ℕ) (l₀ : List ℕ) (at : ℕ) {l₁ l₂ 
     l₄ ≡ sets l₃ (at + 51) (mark ∷ lineEnd ∷ []) → l₄ ≡ sets l₀ at (lineOf x y b mark)
 unfolding lineOf
 line x y b mark l₀ at e f g h =
-    let i = length-number x in
-    let j = length-number y in
-    let k = length-number b in
+    let i = length-number x space in
+    let j = length-number y space in
+    let k = length-number b space in
     let u = hexOf x then space in
     let v = hexOf y then space in
     let w = hexOf b then space in
@@ -81,6 +86,44 @@ length-lines count closed vertices flags zero = refl
 length-lines count closed vertices flags (suc k) =
     let l = length-lines count closed vertices flags k in
     rw (length-append, length-line) (omega arith)
+
+-- ---- what is told of an output segment
+
+pub three : (a b c : ℕ) (l₀ : List ℕ) (at : ℕ) {l₁ l₂ l₃ : List ℕ} {i j k : ℕ} →
+    l₁ ≡ sets l₀ at (decimalOf a then space) → i ≡ at + length (decimalOf a then space) →
+    l₂ ≡ sets l₁ i (decimalOf b then space) → j ≡ i + length (decimalOf b then space) →
+    l₃ ≡ sets l₂ j (decimalOf c then space) → k ≡ j + length (decimalOf c then space) →
+    (k ≡ at + length (threeOf a b c)) × (l₃ ≡ sets l₀ at (threeOf a b c))
+unfolding threeOf
+three a b c l₀ at e p f q g r = three-rows l₀ at (decimalOf a then space) (decimalOf b then space) (decimalOf c then space) e p f q g r
+
+pub pair : (x y : Float) (l₀ : List ℕ) (at : ℕ) {l₁ l₂ : List ℕ} →
+    l₁ ≡ sets l₀ at (hexOf x then space) → l₂ ≡ sets l₁ (at + 17) (hexOf y then lineEnd) → l₂ ≡ sets l₀ at (pairOf x y)
+unfolding pairOf
+pair x y l₀ at e f =
+    let i = length-number x space in
+    let p : at + 17 ≡ at + length (hexOf x then space) = omega arith in
+    sets-next l₀ at (hexOf x then space) (hexOf y then lineEnd) e p f
+
+length-pair : (x y : Float) → length (pairOf x y) ≡ 34
+unfolding pairOf
+length-pair x y =
+    let i = length-number x space in
+    let j = length-number y lineEnd in
+    omega (arith, length-append (hexOf x then space) (hexOf y then lineEnd))
+
+module _ (number place connector source reason startRule endRule : ℕ) (s e : Float) (l₀ : List ℕ) where
+  pub told : {l₁ l₂ l₃ l₄ : List ℕ} {i j k : ℕ} →
+      l₁ ≡ sets l₀ 0 (threeOf number place connector) → i ≡ 0 + length (threeOf number place connector) →
+      l₂ ≡ sets l₁ i (threeOf source reason startRule) → j ≡ i + length (threeOf source reason startRule) →
+      l₃ ≡ sets l₂ j (decimalOf endRule then space) → k ≡ j + length (decimalOf endRule then space) →
+      l₄ ≡ sets l₃ k (pairOf s e) → k + 34 ≤ length l₀ → Shown (toldOf number place connector source reason startRule endRule s e) l₀ (k + 34) l₄
+  unfolding toldOf
+  told {k = k} f p g q h r t room =
+      let rows = three-rows l₀ 0 (threeOf number place connector) (threeOf source reason startRule) (decimalOf endRule then space) f p g q h r in
+      let n = length-pair s e in
+      let z : k + 34 ≡ k + length (pairOf s e) = omega arith in
+      two-rows l₀ (threeOf number place connector ++ threeOf source reason startRule ++ (decimalOf endRule then space)) (pairOf s e) (rows .1) (rows .0 ∙ zero-add _) t z room
 
 -- ---- what is printed
 

@@ -9,11 +9,11 @@ use Rattle.floats.specs.Choice.{when_give_else_, _and_}
 use Rattle.words.specs.Words.{bigEndian, numberAt}
 use Rattle.packed.specs.declared.unpacked.Packed.the-variants.{Job}
 use Rattle.packed.specs.Packed.{headerOf, closedOf, zeroOf, countOf, offsetOf, epsOf, numbersOf, sourceOf, wellFormed, packedOf, decoded, decodedOf}
-use Rattle.packed.specs.Text.{ascii, placesOf, decimalOf, hexOf, refusalOf, headOf, markOf, lineOf, lineAt, linesOf, textOf, printedOf}
+use Rattle.packed.specs.Text.{ascii, placesOf, decimalOf, hexOf, refusalOf, headOf, markOf, lineOf, lineAt, linesOf, textOf, printedOf, threeOf, pairOf, toldOf}
 
 -- all that the samples look through
 unfoldable pub opened : Unit {0}
-unfolding when_give_else_ _and_ ofBits toBits bigEndian numberAt headerOf closedOf zeroOf countOf offsetOf epsOf numbersOf sourceOf wellFormed packedOf decodedOf placesOf decimalOf hexOf refusalOf headOf markOf lineOf lineAt linesOf textOf printedOf
+unfolding when_give_else_ _and_ ofBits toBits bigEndian numberAt headerOf closedOf zeroOf countOf offsetOf epsOf numbersOf sourceOf wellFormed packedOf decodedOf placesOf decimalOf hexOf refusalOf headOf markOf lineOf lineAt linesOf textOf printedOf threeOf pairOf toldOf
 opened = tt
 
 abbrev pub numbers : List ℕ → List Float
@@ -70,6 +70,17 @@ heads = refl
 pub refusals : refusalOf 7 0 ∷ refusalOf 3 513 ∷ refusalOf 4294967295 4294967295 ∷ [] ≡ ascii "7 0\n" ∷ ascii "3 513\n" ∷ ascii "4294967295 4294967295\n" ∷ []
 unfolding opened
 refusals = refl
+
+-- the closing span of the square of side 4 at offset 3, turned back from 0.75 to 0.25; and the largest numbers
+pub tellings :
+    toldOf 0 0 0 3 2 0 0 (ofBits binary64 0x3fe8_0000_0000_0000) (ofBits binary64 0x3fd0_0000_0000_0000)
+    ∷ toldOf 4294967295 4294967295 1 10 9 3 4 (ofBits binary64 nan) (ofBits binary64 0x8000_0000_0000_0000)
+    ∷ []
+    ≡ ascii "0 0 0 3 2 0 0 3fe8000000000000 3fd0000000000000\n"
+    ∷ ascii "4294967295 4294967295 1 10 9 3 4 7ff8000000000000 8000000000000000\n"
+    ∷ []
+unfolding opened
+tellings = refl
 
 -- ---- packed jobs
 

@@ -75,4 +75,17 @@ textOf count closed vertices flags = headOf count closed ++ linesOf count closed
 unfoldable pub printedOf : ℕ → Bool → List Float → List ℕ → List ℕ
 printedOf count closed vertices flags = when leb count 1024 give textOf count closed vertices flags else []
 
+-- three numbers, a space after each
+unfoldable pub threeOf : ℕ → ℕ → ℕ → List ℕ
+threeOf a b c = (decimalOf a then space) ++ (decimalOf b then space) ++ (decimalOf c then space)
+
+-- two numbers by their bits, which end a line
+unfoldable pub pairOf : Float → Float → List ℕ
+pairOf x y = (hexOf x then space) ++ (hexOf y then lineEnd)
+
+-- 02's 2026-01: what is told of an output segment is number and place, whether it is a connector, its source segment, its reason, the rules at start and end, and the parameters there
+unfoldable pub toldOf : ℕ → ℕ → ℕ → ℕ → ℕ → ℕ → ℕ → Float → Float → List ℕ
+toldOf number place connector source reason startRule endRule s e =
+    threeOf number place connector ++ threeOf source reason startRule ++ (decimalOf endRule then space) ++ pairOf s e
+
 infixl 8 _then_

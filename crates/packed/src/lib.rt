@@ -5,5 +5,6 @@ mod unpacked;
 
 pub use text::put_answer;
 pub use text::put_refusal;
+pub use text::put_told;
 pub use unpacked::Packed;
 pub use unpacked::decode;

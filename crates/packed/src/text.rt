@@ -9,7 +9,7 @@ ghost use lib.ListN.{length, drop};
 ghost use lib.Seq.{sets};
 ghost use Rattle.floats.specs.Choice.{_and_};
 ghost use Rattle.io.specs.Counts.{Counts};
-ghost use Rattle.packed.specs.Text.{_then_, decimalOf, hexOf, space, lineEnd, lineOf, markOf, linesOf, wordOf, headOf, refusalOf, printedOf};
+ghost use Rattle.packed.specs.Text.{_then_, decimalOf, hexOf, lineEnd, lineOf, markOf, linesOf, wordOf, headOf, refusalOf, printedOf, threeOf, pairOf, toldOf};
 
 // A refusal: its number and its place. Answers the length of the text.
 pub fn put_refusal(number: u32, place: u32, out: &mut [u8; 65536]) -> usize
@@ -19,6 +19,51 @@ pub fn put_refusal(number: u32, place: u32, out: &mut [u8; 65536]) -> usize
 {
     let at = put_decimal(number as u64, b' ', out, 0);
     put_decimal(place as u64, b'\n', out, at)
+}
+
+// What is told of an output segment: seven numbers, and two parameters by their bits. Answers the length of the text.
+pub fn put_told(
+    number: u32,
+    place: u32,
+    connector: u32,
+    source: u32,
+    reason: u32,
+    start_rule: u32,
+    end_rule: u32,
+    start_param: f64,
+    end_param: f64,
+    out: &mut [u8; 65536],
+) -> usize
+    ensures { λ r. ⌜ Counts r (now (out .exit)) ⌝ }
+    ensures { λ r. ⌜ r ≡ length (toldOf number place connector source reason «start_rule» «end_rule» «start_param» «end_param») ⌝ }
+    ensures { λ r. ⌜ now (out .exit) ≡ toldOf number place connector source reason «start_rule» «end_rule» «start_param» «end_param» ++ drop r (now (out .entry)) ⌝ }
+{
+    let first = put_three(number, place, connector, out, 0);
+    let second = put_three(source, reason, start_rule, out, first);
+    let third = put_decimal(end_rule as u64, b' ', out, second);
+    put_pair(start_param, end_param, out, third);
+    third + 34
+}
+
+// Three numbers, a space after each. Answers the place past these.
+fn put_three(a: u32, b: u32, c: u32, out: &mut [u8], at: usize) -> usize
+    requires { ⌜ at + 63 ≤ length (now out) ⌝ }
+    ensures { λ r. ⌜ r ≡ at + length (threeOf a b c) ⌝ }
+    ensures { λ r. ⌜ r ≤ at + 63 ⌝ }
+    ensures { λ _. ⌜ now (out .exit) ≡ sets (now (out .entry)) at (threeOf a b c) ⌝ }
+{
+    let first = put_decimal(a as u64, b' ', out, at);
+    let second = put_decimal(b as u64, b' ', out, first);
+    put_decimal(c as u64, b' ', out, second)
+}
+
+// The bits of two numbers, and the line's end.
+fn put_pair(a: f64, b: f64, out: &mut [u8], at: usize)
+    requires { ⌜ at + 34 ≤ length (now out) ⌝ }
+    ensures { λ _. ⌜ now (out .exit) ≡ sets (now (out .entry)) at (pairOf a b) ⌝ }
+{
+    put_hex(a, b' ', out, at);
+    put_hex(b, b'\n', out, at + 17);
 }
 
 // An answer: a line for the count and the closed mark, and a line for each vertex. Answers the length of the text:
@@ -112,9 +157,9 @@ fn put_line(x: f64, y: f64, bulge: f64, mark: u8, out: &mut [u8], at: usize)
     requires { ⌜ at + 53 ≤ length (now out) ⌝ }
     ensures { λ _. ⌜ now (out .exit) ≡ sets (now (out .entry)) at (lineOf x y bulge mark) ⌝ }
 {
-    put_hex(x, out, at);
-    put_hex(y, out, at + 17);
-    put_hex(bulge, out, at + 34);
+    put_hex(x, b' ', out, at);
+    put_hex(y, b' ', out, at + 17);
+    put_hex(bulge, b' ', out, at + 34);
     put_mark(mark, out, at + 51);
 }
 
@@ -126,14 +171,14 @@ fn put_mark(mark: u8, out: &mut [u8], at: usize)
     out[at + 1] = b'\n';
 }
 
-// The bits of x and a space.
-fn put_hex(x: f64, out: &mut [u8], at: usize)
+// The bits of x and the byte after them.
+fn put_hex(x: f64, end: u8, out: &mut [u8], at: usize)
     requires { ⌜ at + 17 ≤ length (now out) ⌝ }
-    ensures { λ _. ⌜ now (out .exit) ≡ sets (now (out .entry)) at (hexOf x then space) ⌝ }
+    ensures { λ _. ⌜ now (out .exit) ≡ sets (now (out .entry)) at (hexOf x then end) ⌝ }
 {
     let mut digits = [0u8; 16];
     let n = io::hex(bits::bits_of(x), 16, &mut digits);
-    put(&digits[..n], b' ', out, at);
+    put(&digits[..n], end, out, at);
 }
 
 // A number and the byte after it. Answers the place past these.

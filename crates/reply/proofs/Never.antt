@@ -12,7 +12,7 @@ use lib.ListN.{length, getD, take}
 use lib.Seq.{take-all, length-take-le}
 use Rattle.floats.specs.Choice.{when_give_else_}
 use Rattle.floats.proofs.Choice.{no}
-use Rattle.refusals.specs.declared.Refusal.the-variants.{Ragged, TooMany, BadNumber, NoRoom, Repeated, NotFinite, Malformed}
+use Rattle.refusals.specs.declared.Refusal.the-variants.{Ragged, TooMany, BadNumber, NoRoom, Repeated, NotFinite, Malformed, NoSuchSegment}
 use Rattle.refusals.proofs.First.{by-test}
 use Rattle.source.proofs.Segments.{segments-most}
 use Rattle.sheet.specs.Buffers.{Buffers}
@@ -23,7 +23,7 @@ use Rattle.job.specs.Rows.{Job, outcome, places, Given, Short, vertices, flags,
 use Rattle.job.proofs.Demand1.{demand-1}
 use Rattle.packed.specs.Packed.{wellFormed, countOf, closedOf, sourceOf}
 use Rattle.packed.specs.Text.{placesOf, decimalOf, headOf, refusalOf, textOf}
-use Rattle.packed.proofs.Bytes.{length-numbers, sized, few}
+use Rattle.packed.proofs.Bytes.{length-numbers, few, long}
 use Rattle.reply.specs.Reply.{answerText, settingsOf, outcomeOf, replyOf}
 use Rattle.reply.proofs.Texts.{blankJob}
 
@@ -70,6 +70,7 @@ digit (Refused NoRoom) b = refl
 digit (Refused (Repeated k)) b = refl
 digit (Refused NotFinite) b = refl
 digit (Refused Malformed) b = refl
+digit (Refused NoSuchSegment) b = refl
 
 abbrev pub firstByte : List ℕ → ℕ
 firstByte bytes = getD (replyOf bytes) 0 0
@@ -90,10 +91,6 @@ never-printed bytes = (
 )
 
 -- ---- where the program stops reading
-
--- a well formed job has at most 12306 bytes
-long : (bytes : List ℕ) → 12306 < length bytes → wellFormed bytes ≡ false
-long bytes h = by-test (wellFormed bytes) (λ (w : wellFormed bytes ≡ true). absurd (omega (arith, sized bytes w, few bytes w))) (λ (w : wellFormed bytes ≡ false). w)
 
 pub cut : (bytes : List ℕ) → replyOf (take 12307 bytes) ≡ replyOf bytes
 unfolding replyOf

@@ -7,7 +7,7 @@ use native.Mathlib.Omega.{arith}
 use lib.Ieee.{binary64, toBits}
 use lib.Seq.{sets}
 use Rattle.io.specs.Digits.{digits}
-use Rattle.packed.specs.Text.{hexOf, space, _then_}
+use Rattle.packed.specs.Text.{hexOf, _then_}
 use Rattle.packed.proofs.Digits.{sixteen}
 use Rattle.packed.proofs.text.put_hex.Statement.{statement}
 use Rattle.packed.proofs.text.put_hex.Tie as tie
@@ -26,7 +26,7 @@ returns c =
     let b = c .before .before .before .before .before .before .before .bits-of in
     let s = sixteen (b .result) (d .result) (omega arith) (d .ensures .1 .0) in
     let e : digits 16 (d .result) (b .result) ≡ digits 16 16 (toBits binary64 (a .x)) = rw (s, b .ensures) in
-    c .before .before .put .ensures ∙ ap (λ (w : List ℕ). sets (a .out .now) (a .at) (w then space)) (d .ensures .1 .1 ∙ e)
+    c .before .before .put .ensures ∙ ap (λ (w : List ℕ). sets (a .out .now) (a .at) (w then a .end)) (d .ensures .1 .1 ∙ e)
 
 pub put-hex-spec : {M : Type 1} → statement M
 put-hex-spec =
