@@ -1,5 +1,6 @@
 # A packed job, the program's answer to it, and both in words. The two files come as operands:
 #     part=job FILE (one line: the count of bytes, then the bytes as hexadecimal digits) part=answer FILE
+# and before them segment=N, where --why asks for output segment N.
 
 part == "job" {
     bytes = $1
@@ -46,8 +47,12 @@ function bad_number(    whose, plane) {
 
 function point_of(i) { return "(" decimal(x_of(i)) ", " decimal(y_of(i)) ")" }
 
-# the vertex that number 5's vertex is joined to
-function after_place() { return place + 1 < v ? place + 1 : 0 }
+# the vertex that a vertex is joined to, and the one that number 5's is joined to
+function vertex_after(i) { return i + 1 < v ? i + 1 : 0 }
+function after_place() { return vertex_after(place) }
+
+# from 1e-8 on a bulge makes an arc
+function is_arc(i) { return size(bulge_of(i)) >= 0.00000001 }
 
 # the two may differ in the signs of zeros, and are told apart then
 function repeated(    other) {
@@ -70,6 +75,7 @@ function refusal() {
     if (number == 5) return repeated()
     if (number == 6) return "the built output holds a NaN or an infinity"
     if (number == 7) return malformed()
+    if (number == 8) return "there is no output segment " segment "; they are numbered from 0, and --show tells how many there are"
     return "place " place
 }
 
@@ -78,7 +84,7 @@ function refusal() {
 function empty(    ends) {
     if (v < 2) return "empty, nothing is left"
     ends = "ended within ε (" decimal(eps) ") of where "
-    if (v == 2 && !closed && size(bulge_of(0)) >= 0.00000001)
+    if (v == 2 && !closed && is_arc(0))
         return "empty, since the one arc collapsed, or " ends "it began: then take a smaller ε, down to 1e-9"
     return "empty, since every move " ends "the first began; if more should be left, take a smaller ε, down to 1e-9"
 }
