@@ -5,7 +5,8 @@
 mod archive;
 
 use crate::stage::{Answer, Job, Lent};
-use archive::blidrosk_raw_offset;
+use archive::{blidrosk_raw_offset, blidrosk_why};
+use std::array;
 
 /// An answer that no job has.
 const TORN: Answer = [u32::MAX; 5];
@@ -58,4 +59,39 @@ pub unsafe fn job_by(function: Function, job: &Job, lent: Lent) -> Answer {
         )
     };
     if number == answer[0] { answer } else { TORN }
+}
+
+/// The seven numbers of an answer, and both parameters by their bits.
+pub type WhyTold = ([u32; 7], [u64; 2]);
+
+/// What stands in an answer and its parameters before a call, and after it in three places past each:
+/// no number that is told, and NaNs that signal.
+const UNSET: u32 = 0xaaaa_aaaa;
+const UNSET_PARAM: u64 = 0x7ff4_0000_dead_beef;
+
+const TORN_WHY: WhyTold = ([u32::MAX; 7], [u64::MAX; 2]);
+
+/// Asks the proved code why a segment is as it is. The number comes back twice; where the two differ,
+/// or a place past the answer or the parameters was written to, the answer is `TORN_WHY`.
+pub fn why(job: &Job, segment: u32) -> WhyTold {
+    let (mut answer, mut params) = ([UNSET; 10], [UNSET_PARAM; 5]);
+    // SAFETY: the source is lent with its length; seven numbers and two parameters have their places.
+    let number = unsafe {
+        blidrosk_why(
+            job.source.as_ptr(),
+            job.source.len(),
+            job.closed,
+            job.offset,
+            job.eps,
+            segment,
+            answer.as_mut_ptr().cast(),
+            params.as_mut_ptr().cast(),
+        )
+    };
+    let kept = answer[7..] == [UNSET; 3] && params[2..] == [UNSET_PARAM; 3];
+    if kept && number == answer[0] {
+        (array::from_fn(|i| answer[i]), array::from_fn(|i| params[i]))
+    } else {
+        TORN_WHY
+    }
 }

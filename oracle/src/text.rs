@@ -15,7 +15,7 @@ pub fn bits(number: f64) -> String {
 }
 
 /// A NaN too is written as it is.
-fn exact(number: f64) -> String {
+pub fn exact(number: f64) -> String {
     format!("{:016x}", number.to_bits())
 }
 

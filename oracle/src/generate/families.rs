@@ -62,7 +62,7 @@ fn lines(_: &mut Random) -> f64 {
     0.0
 }
 
-fn arcs(random: &mut Random) -> f64 {
+pub(super) fn arcs(random: &mut Random) -> f64 {
     match random.below(8) {
         0 | 1 => random.around(1.0),
         2 | 3 => random.around(10.0),
@@ -168,13 +168,13 @@ fn nudged(random: &mut Random) -> Job {
 }
 
 /// A point of a circle.
-fn on_circle(center: Vector2, radius: f64, turn: f64) -> Vector2 {
+pub(super) fn on_circle(center: Vector2, radius: f64, turn: f64) -> Vector2 {
     let (sin, cos) = turn.sin_cos();
     center + Vector2::new(radius * cos, radius * sin)
 }
 
 /// The bulge of the arc that turns by `sweep`.
-fn bulge_of(sweep: f64) -> f64 {
+pub(super) fn bulge_of(sweep: f64) -> f64 {
     (sweep / 4.0).tan()
 }
 

@@ -5,10 +5,12 @@ mod families;
 mod grid;
 mod keyholes;
 mod random;
+mod reasons;
 mod steer;
 
 pub use families::{FAMILIES, Family, with_a_nan};
 pub use grid::{each_close_job, each_short_job};
 pub use keyholes::KEYHOLES;
 pub use random::Random;
+pub use reasons::REASONS;
 pub use steer::Steering;

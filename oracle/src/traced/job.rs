@@ -3,6 +3,7 @@
 use super::joins::Setting;
 use super::moves::{Drawing, Walk};
 use super::segments::Segment;
+use super::why::{Origin, Reason, Why, Whys};
 use super::{Event, Site, Trace};
 use crate::polyline::{PlineSource, Polyline};
 use crate::stage::{Answer, Job, Lent};
@@ -33,12 +34,27 @@ pub fn job(trace: &mut Trace, job: &Job) -> (Answer, Vec<u64>) {
         Result::Refused(..) => Vec::new(),
         Result::Drawn(drawing) => {
             let numbers = drawing.vertices.as_flattened().iter().map(|x| x.to_bits());
-            numbers
-                .chain(drawing.flags.iter().map(|flag| u64::from(*flag)))
-                .collect()
+            numbers.chain(drawing.flags().map(u64::from)).collect()
         }
     };
     (answer(&result), bits)
+}
+
+/// Why each segment of a job's output is as it is. No room is asked for: the job is lent enough.
+pub fn whys(job: &Job) -> Whys {
+    let lent = Job::new(job.closed, job.offset, job.eps, job.source.clone());
+    match Trace::new().result(&lent) {
+        Result::Refused(number, place) => Err([number, place as u32]),
+        Result::Drawn(drawing) => Ok(drawing.whys),
+    }
+}
+
+fn copied(segment: usize) -> Why {
+    Why {
+        origin: Origin::Span(segment),
+        reason: Reason::Copied,
+        rules: [None; 2],
+    }
 }
 
 fn answer(result: &Result) -> Answer {
@@ -48,7 +64,7 @@ fn answer(result: &Result) -> Answer {
             0,
             0,
             drawing.vertices.len() as u32,
-            drawing.flags.iter().filter(|flag| **flag).count() as u32,
+            drawing.flags().filter(|flag| *flag).count() as u32,
             drawing.closed.into(),
         ],
     }
@@ -66,10 +82,11 @@ fn write(job: &Job, result: &Result, lent: Lent) -> Answer {
     for place in &mut lent.vertices[..3 * room] {
         *place = drawn.next().unwrap_or(0.0);
     }
-    let raised = (0..drawing.flags.len()).filter(|i| drawing.flags[*i]);
-    let mut raised = raised.map(|i| i as u32);
+    let raised = drawing.flags().enumerate().filter(|(_, flag)| *flag);
+    let mut raised = raised.map(|(i, _)| i as u32);
+    let mut flags = drawing.flags();
     for i in 0..room {
-        lent.flags[i] = drawing.flags.get(i).copied().unwrap_or(false).into();
+        lent.flags[i] = flags.next().unwrap_or(false).into();
         lent.indexes[i] = raised.next().unwrap_or(0);
     }
     answer(result)
@@ -130,7 +147,7 @@ impl Trace {
             self.mark(Event::Copied);
             return Err(Result::Drawn(Drawing {
                 vertices: job.source.chunks(3).map(|n| [n[0], n[1], n[2]]).collect(),
-                flags: vec![false; job.segments()],
+                whys: (0..job.segments()).map(copied).collect(),
                 closed: job.closed,
             }));
         }

@@ -5,9 +5,25 @@ use super::segments::{Arc, Kind, Segment, pair};
 use super::{Event, Pair, Rule, Site, Trace};
 use crate::core::math::{Vector2, dist_squared, point_from_parametric};
 
+/// The branch that made a join; its place here is its number in `parts`.
+#[derive(Debug, Copy, Clone, PartialEq, Eq)]
+pub(super) enum Cause {
+    Coincident,
+    Met,
+    Outer,
+    Reversal,
+    CollapsedSide,
+    NoMeeting,
+    Missed,
+    ZeroTangent,
+    SameDirection,
+}
+
 /// Where the span before ends, where the span after starts, and what leads from one to the other.
 #[derive(Debug, Copy, Clone)]
 pub(super) struct Join {
+    pub pair: Pair,
+    pub cause: Cause,
     pub end: Vector2,
     pub end_param: f64,
     /// By which rule an arc before was trimmed.
@@ -17,12 +33,14 @@ pub(super) struct Join {
     /// By which rule an arc after was trimmed.
     pub start_rule: Option<Rule>,
     pub bulge: f64,
-    pub invalid: bool,
 }
 
 impl Join {
-    pub fn whole(end: Vector2, start: Vector2) -> Self {
+    /// A straight connector between two whole segments.
+    fn whole(cause: Cause, end: Vector2, start: Vector2) -> Self {
         Self {
+            pair: Pair::NoJoin,
+            cause,
             end,
             end_param: 1.0,
             end_rule: None,
@@ -30,14 +48,6 @@ impl Join {
             start_param: 0.0,
             start_rule: None,
             bulge: 0.0,
-            invalid: false,
-        }
-    }
-
-    fn gap(end: Vector2, start: Vector2) -> Self {
-        Self {
-            invalid: true,
-            ..Self::whole(end, start)
         }
     }
 }
@@ -64,6 +74,9 @@ impl Granted {
 /// A point of both segments, with its place on each.
 type Meeting = (Vector2, Granted, Granted);
 
+/// A meeting, or the cause of the gap that there is for want of one.
+type Met = Result<Meeting, Cause>;
+
 /// Offset and ε of the job at hand.
 #[derive(Debug, Copy, Clone)]
 pub(super) struct Setting {
@@ -86,10 +99,11 @@ impl Trace {
         next: &Segment,
         shared: Vector2,
     ) -> Join {
-        self.pair = pair(current, next);
+        let pair = pair(current, next);
+        self.pair = pair;
         let join = self.join_of(set, current, next, shared);
         self.pair = Pair::NoJoin;
-        join
+        Join { pair, ..join }
     }
 
     fn join_of(
@@ -102,23 +116,23 @@ impl Trace {
         let (end, start) = (current.ends[1], next.ends[0]);
         if self.near([Site::CoincidentX, Site::CoincidentY], end, start, set.eps) {
             self.mark(Event::Coincident);
-            return Join::whole(end, end);
+            return Join::whole(Cause::Coincident, end, end);
         }
         if let Some(join) = self.settled(set, current, next, shared) {
             return join;
         }
         match self.meeting(set, current, next, shared) {
-            Some((point, on_current, on_next)) => {
+            Ok((point, on_current, on_next)) => {
                 self.mark(Event::Trimmed);
                 Join {
                     end_param: on_current.param,
                     end_rule: on_current.rule,
                     start_param: on_next.param,
                     start_rule: on_next.rule,
-                    ..Join::whole(point, point)
+                    ..Join::whole(Cause::Met, point, point)
                 }
             }
-            None => Join::gap(end, start),
+            Err(cause) => Join::whole(cause, end, start),
         }
     }
 
@@ -129,7 +143,7 @@ impl Trace {
         current: &Segment,
         next: &Segment,
         shared: Vector2,
-    ) -> Option<Meeting> {
+    ) -> Met {
         match (current.kind, next.kind) {
             (Kind::Line, Kind::Line) => self.line_line(set, current.ends, next.ends),
             (Kind::Line, Kind::Arc(arc)) => self.line_arc(set, current.ends, &arc, shared),
@@ -143,7 +157,7 @@ impl Trace {
                     (true, false) => Event::CollapsedCurrent,
                     _ => Event::CollapsedNext,
                 });
-                None
+                Err(Cause::CollapsedSide)
             }
         }
     }
@@ -162,34 +176,34 @@ impl Trace {
         let least = set.eps * set.eps;
         if self.at_most(Site::IncomingZero, squares[0], least) {
             self.mark(Event::ZeroIncoming);
-            return Some(Join::gap(end, start));
+            return Some(Join::whole(Cause::ZeroTangent, end, start));
         }
         if self.at_most(Site::OutgoingZero, squares[1], least) {
             self.mark(Event::ZeroOutgoing);
-            return Some(Join::gap(end, start));
+            return Some(Join::whole(Cause::ZeroTangent, end, start));
         }
         let turn = incoming.perp_dot(outgoing);
         let bound = 1e-8 * 1e-8 * squares[0] * squares[1];
         if self.at_most(Site::Straight, turn * turn, bound) {
             if self.below(Site::Opposed, incoming.dot(outgoing), 0.0) {
                 self.mark(Event::ReversalRound);
-                return Some(self.round(set, end, start, shared));
+                return Some(self.round(set, Cause::Reversal, [end, start], shared));
             }
             self.mark(Event::SameDirection);
-            return Some(Join::gap(end, start));
+            return Some(Join::whole(Cause::SameDirection, end, start));
         }
         if self.above(Site::Inner, set.offset * turn, 0.0) {
             return None;
         }
         self.mark(Event::OuterRound);
-        Some(self.round(set, end, start, shared))
+        Some(self.round(set, Cause::Outer, [end, start], shared))
     }
 
     pub(super) fn round(
         &mut self,
         set: Setting,
-        end: Vector2,
-        start: Vector2,
+        cause: Cause,
+        [end, start]: [Vector2; 2],
         shared: Vector2,
     ) -> Join {
         // What comes of a connector does not hang on the two segments.
@@ -223,37 +237,33 @@ impl Trace {
         self.pair = pair;
         Join {
             bulge,
-            ..Join::whole(end, start)
+            ..Join::whole(cause, end, start)
         }
     }
 
-    fn line_line(
-        &mut self,
-        set: Setting,
-        current: [Vector2; 2],
-        next: [Vector2; 2],
-    ) -> Option<Meeting> {
+    fn line_line(&mut self, set: Setting, current: [Vector2; 2], next: [Vector2; 2]) -> Met {
         match self.lines(current, next, set.eps) {
             Lines::True(t, s) => {
                 self.mark(Event::LinesTrue);
-                Some(self.clamped(t, s, current, next))
+                Ok(self.clamped(t, s, current, next))
             }
             Lines::False => {
                 self.mark(Event::LinesFalse);
                 self.mark(Event::Missed);
-                None
+                Err(Cause::Missed)
             }
             Lines::None => {
                 self.mark(Event::LinesNone);
                 self.mark(Event::NoMeeting);
-                None
+                Err(Cause::NoMeeting)
             }
             Lines::Overlap => {
                 self.mark(Event::LinesOverlap);
                 let param = self.param_of(next, current[1], set.eps);
                 let usable = self.usable_line_param(set, param, next);
                 self.mark_if(usable.is_none(), Event::Missed);
-                usable.map(|param| (current[1], Granted::on_line(1.0), Granted::on_line(param)))
+                let param = usable.ok_or(Cause::Missed)?;
+                Ok((current[1], Granted::on_line(1.0), Granted::on_line(param)))
             }
         }
     }
@@ -355,13 +365,7 @@ impl Trace {
         Some(Granted::by(Rule::PastEnd, 1.0))
     }
 
-    fn line_arc(
-        &mut self,
-        set: Setting,
-        line: [Vector2; 2],
-        arc: &Arc,
-        shared: Vector2,
-    ) -> Option<Meeting> {
+    fn line_arc(&mut self, set: Setting, line: [Vector2; 2], arc: &Arc, shared: Vector2) -> Met {
         let at = |t: f64| point_from_parametric(line[0], line[1], t);
         let attempt = |trace: &mut Self, t: f64| trace.line_arc_at(set, line, arc, t, at(t));
         match self.line_and_circle(line, arc.radius, arc.center, set.eps) {
@@ -408,13 +412,7 @@ impl Trace {
         Some((point, Granted::on_line(on_line), on_arc))
     }
 
-    fn arc_arc(
-        &mut self,
-        set: Setting,
-        current: &Arc,
-        next: &Arc,
-        shared: Vector2,
-    ) -> Option<Meeting> {
+    fn arc_arc(&mut self, set: Setting, current: &Arc, next: &Arc, shared: Vector2) -> Met {
         let attempt = |trace: &mut Self, meet: Vector2| trace.arc_arc_at(set, current, next, meet);
         let circles = [current, next].map(|arc| (arc.radius, arc.center));
         match self.circles(circles[0], circles[1], set.eps) {
@@ -483,20 +481,20 @@ impl Trace {
         Some((point, on_current, on_next))
     }
 
-    fn no_meeting(&mut self) -> Option<Meeting> {
+    fn no_meeting(&mut self) -> Met {
         self.mark(Event::MeetNone);
         self.mark(Event::NoMeeting);
-        None
+        Err(Cause::NoMeeting)
     }
 
-    fn tangent_meeting(&mut self, meeting: Option<Meeting>) -> Option<Meeting> {
+    fn tangent_meeting(&mut self, meeting: Option<Meeting>) -> Met {
         self.taken(meeting, Event::MeetTangentTaken, Event::MeetTangentMissed)
     }
 
-    fn taken(&mut self, meeting: Option<Meeting>, yes: Event, no: Event) -> Option<Meeting> {
+    fn taken(&mut self, meeting: Option<Meeting>, yes: Event, no: Event) -> Met {
         self.mark(if meeting.is_some() { yes } else { no });
         self.mark_if(meeting.is_none(), Event::Missed);
-        meeting
+        meeting.ok_or(Cause::Missed)
     }
 
     /// The first of two that can be used.
@@ -505,10 +503,10 @@ impl Trace {
         candidates: [C; 2],
         mut attempt: impl FnMut(&mut Self, C) -> Option<Meeting>,
         [first, second, neither]: [Event; 3],
-    ) -> Option<Meeting> {
+    ) -> Met {
         if let Some(meeting) = attempt(self, candidates[0]) {
             self.mark(first);
-            return Some(meeting);
+            return Ok(meeting);
         }
         let meeting = attempt(self, candidates[1]);
         self.taken(meeting, second, neither)
@@ -520,7 +518,7 @@ impl Trace {
         set: Setting,
         choice: Choice<C>,
         mut attempt: impl FnMut(&mut Self, C) -> Option<Meeting>,
-    ) -> Option<Meeting> {
+    ) -> Met {
         let [first, second] = choice.squares;
         if self.equally_near(set, first, second) {
             let events = [Event::EqualFirst, Event::EqualSecond, Event::EqualMissed];

@@ -12,10 +12,12 @@ pub mod parts;
 mod rules;
 mod segments;
 mod sites;
+mod why;
 
-pub use job::{job, stage};
+pub use job::{job, stage, whys};
 pub use rules::{Rule, RuleTable};
 pub use sites::{EXPECTED, Event, Pair, Site};
+pub use why::{Origin, Reason, Told, Why, Whys, told, why};
 
 /// A test, its answer, and how far the two numbers compared lie apart.
 #[derive(Debug, Copy, Clone)]

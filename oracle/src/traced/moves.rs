@@ -2,6 +2,7 @@
 
 use super::joins::{Join, Setting};
 use super::segments::Segment;
+use super::why::{Origin, Reason, Why};
 use super::{Event, Rule, Site, Trace};
 use crate::core::math::Vector2;
 use crate::polyline::{PlineSource, PlineVertex, Polyline};
@@ -9,13 +10,8 @@ use crate::polyline::{PlineSource, PlineVertex, Polyline};
 pub(super) struct Move {
     end: Vector2,
     bulge: f64,
-    invalid: bool,
-    /// The rules at the start and the end of a span; a connector has no such pair.
-    pub span: Option<Rules>,
+    pub why: Why,
 }
-
-/// By which rule a span starts, and by which it ends, where a trimmed arc does.
-pub(super) type Rules = [Option<Rule>; 2];
 
 /// Where the walk starts, its moves, and its joins in the order in which they are made: the closing
 /// one first. The last move of a closed walk ends where it starts.
@@ -25,18 +21,25 @@ pub(super) struct Walk {
     pub joins: Vec<Join>,
 }
 
-/// Where a span starts on its segment, and by which rule.
+/// Where a span starts or ends on its segment, and by which rule.
 #[derive(Copy, Clone)]
-struct SpanStart {
+struct SpanEnd {
     param: f64,
     rule: Option<Rule>,
 }
 
-impl SpanStart {
-    const WHOLE: Self = Self {
-        param: 0.0,
-        rule: None,
-    };
+impl SpanEnd {
+    /// The end of a segment at which there is no join.
+    fn free(param: f64) -> Self {
+        Self { param, rule: None }
+    }
+
+    fn before(join: &Join) -> Self {
+        Self {
+            param: join.end_param,
+            rule: join.end_rule,
+        }
+    }
 
     fn after(join: &Join) -> Self {
         Self {
@@ -46,9 +49,10 @@ impl SpanStart {
     }
 }
 
+/// The vertices, and for each kept move, thus for each segment, why it is as it is.
 pub(super) struct Drawing {
     pub vertices: Vec<[f64; 3]>,
-    pub flags: Vec<bool>,
+    pub whys: Vec<Why>,
     pub closed: bool,
 }
 
@@ -56,9 +60,13 @@ impl Drawing {
     pub fn empty() -> Self {
         Self {
             vertices: Vec::new(),
-            flags: Vec::new(),
+            whys: Vec::new(),
             closed: false,
         }
+    }
+
+    pub fn flags(&self) -> impl Iterator<Item = bool> {
+        self.whys.iter().map(|why| why.reason.is_flagged())
     }
 }
 
@@ -69,34 +77,24 @@ impl Trace {
             .is_closed
             .then(|| self.join(set, &segments[last], &segments[0], source.at(0).pos()));
         let start = closing.map_or(segments[0].ends[0], |join| join.start);
-        let mut from = closing.map_or(SpanStart::WHOLE, |join| SpanStart::after(&join));
+        let mut from = closing.map_or(SpanEnd::free(0.0), |join| SpanEnd::after(&join));
         let mut moves = Vec::new();
         let mut joins = Vec::from_iter(closing);
         for i in 0..last {
             let shared = source.at(i + 1).pos();
             let join = self.join(set, &segments[i], &segments[i + 1], shared);
-            moves.push(self.span(&segments[i], from, &join, join.end));
-            moves.push(connector(&join, join.start));
-            from = SpanStart::after(&join);
+            moves.push(self.span(segments, i, [from, SpanEnd::before(&join)], join.end));
+            moves.push(connector(i, &join, join.start));
+            from = SpanEnd::after(&join);
             joins.push(join);
         }
-        match closing {
+        moves.extend(match closing {
             None => {
                 let end = segments[last].ends[1];
-                moves.push(self.span(&segments[last], from, &Join::whole(end, end), end));
+                vec![self.span(segments, last, [from, SpanEnd::free(1.0)], end)]
             }
-            Some(join) => {
-                let sites = [Site::ClosingMeetsX, Site::ClosingMeetsY];
-                if self.near(sites, join.end, join.start, set.eps) {
-                    self.mark(Event::ClosingSpan);
-                    moves.push(self.span(&segments[last], from, &join, start));
-                } else {
-                    self.mark(Event::ClosingConnector);
-                    moves.push(self.span(&segments[last], from, &join, join.end));
-                    moves.push(connector(&join, start));
-                }
-            }
-        }
+            Some(join) => self.closing(set, segments, from, &join),
+        });
         Walk {
             start,
             moves,
@@ -104,18 +102,54 @@ impl Trace {
         }
     }
 
-    /// The part of a segment from `from` up to a join, as a move to `end`.
-    fn span(&mut self, segment: &Segment, from: SpanStart, join: &Join, end: Vector2) -> Move {
+    /// The last span of a closed walk, and the closing connector unless the span closes it.
+    fn closing(
+        &mut self,
+        set: Setting,
+        segments: &[Segment],
+        from: SpanEnd,
+        join: &Join,
+    ) -> Vec<Move> {
+        let last = segments.len() - 1;
+        let ends = [from, SpanEnd::before(join)];
+        let sites = [Site::ClosingMeetsX, Site::ClosingMeetsY];
+        if self.near(sites, join.end, join.start, set.eps) {
+            self.mark(Event::ClosingSpan);
+            return vec![self.span(segments, last, ends, join.start)];
+        }
+        self.mark(Event::ClosingConnector);
+        let span = self.span(segments, last, ends, join.end);
+        vec![span, connector(last, join, join.start)]
+    }
+
+    /// The part of a segment between its two ends, as a move to `end`.
+    fn span(
+        &mut self,
+        segments: &[Segment],
+        source: usize,
+        ends: [SpanEnd; 2],
+        end: Vector2,
+    ) -> Move {
+        let [from, to] = ends.map(|end| end.param);
         Move {
             end,
-            bulge: segment.bulge(from.param, join.end_param),
-            invalid: self.span_is_invalid(segment, from.param, join.end_param),
-            span: Some([from.rule, join.end_rule]),
+            bulge: segments[source].bulge(from, to),
+            why: Why {
+                origin: Origin::Span(source),
+                reason: self.span_reason(&segments[source], from, to),
+                rules: ends.map(|end| end.rule),
+            },
         }
     }
 
-    pub(super) fn span_is_invalid(&mut self, segment: &Segment, from: f64, to: f64) -> bool {
-        segment.is_collapsed() || self.at_most(Site::TurnedBack, to, from)
+    pub(super) fn span_reason(&mut self, segment: &Segment, from: f64, to: f64) -> Reason {
+        if segment.is_collapsed() {
+            Reason::Collapsed
+        } else if self.at_most(Site::TurnedBack, to, from) {
+            Reason::TurnedBack([from, to])
+        } else {
+            Reason::InOrder
+        }
     }
 
     /// Draws each vertex when a kept move leaves it.
@@ -137,7 +171,7 @@ impl Trace {
             );
             if !dropped {
                 drawing.vertices.push([last.x, last.y, step.bulge]);
-                drawing.flags.push(step.invalid);
+                drawing.whys.push(step.why);
                 last = step.end;
             }
         }
@@ -160,17 +194,23 @@ impl Trace {
     }
 }
 
-fn connector(join: &Join, end: Vector2) -> Move {
+/// The connector that a join after the segment `source` leads along.
+fn connector(source: usize, join: &Join, end: Vector2) -> Move {
     Move {
         end,
         bulge: join.bulge,
-        invalid: join.invalid,
-        span: None,
+        why: Why {
+            origin: Origin::Connector(source),
+            reason: Reason::of_connector(join.cause),
+            rules: [None; 2],
+        },
     }
 }
 
 fn fate(step: &Move, dropped: bool) -> Event {
-    match (step.span.is_some(), dropped, step.invalid) {
+    let Why { origin, reason, .. } = step.why;
+    let span = matches!(origin, Origin::Span(_));
+    match (span, dropped, reason.is_flagged()) {
         (true, false, false) => Event::SpanKept,
         (true, false, true) => Event::SpanFlagged,
         (true, true, false) => Event::SpanDropped,

@@ -1,7 +1,8 @@
 //! The parts of a join by themselves, for samples of each: 000's own are private to it.
 
-use super::joins::{Join, Setting};
+use super::joins::{Cause, Join, Setting};
 use super::segments::{Arc, Kind, Segment};
+use super::why::{Origin, Reason};
 use super::{Event, Pair, Rule, Trace};
 use crate::core::math::Vector2;
 use crate::polyline::PlineVertex;
@@ -68,32 +69,20 @@ pub struct Meets {
 /// What two sides come to: where they meet, or the name of the way they missed.
 pub type Met = Result<Meets, &'static str>;
 
-/// What a join comes to: its cause, the precise cause's number, and its class.
-type Outcome = (&'static str, u32, &'static str);
-
-const OUTCOMES: &[(Event, Outcome)] = &[
-    (Event::Coincident, ("coincident", 0, "Coincident")),
-    (Event::Trimmed, ("inner", 1, "Trimmed")),
-    (Event::OuterRound, ("outer", 2, "OuterRound")),
-    (Event::ReversalRound, ("reversal", 3, "ReversalRound")),
-    (Event::CollapsedCurrent, ("inner", 4, "InvalidInnerGap")),
-    (Event::CollapsedNext, ("inner", 4, "InvalidInnerGap")),
-    (Event::CollapsedBoth, ("inner", 4, "InvalidInnerGap")),
-    (Event::NoMeeting, ("inner", 5, "InvalidInnerGap")),
-    (Event::Missed, ("inner", 6, "InvalidInnerGap")),
-    (
-        Event::ZeroIncoming,
-        ("zero_tangent", 7, "InvalidDegenerateGap"),
-    ),
-    (
-        Event::ZeroOutgoing,
-        ("zero_tangent", 7, "InvalidDegenerateGap"),
-    ),
-    (
-        Event::SameDirection,
-        ("same_direction", 8, "InvalidDegenerateGap"),
-    ),
-];
+impl Cause {
+    /// Its name, and that of the class.
+    fn names(self) -> (&'static str, &'static str) {
+        match self {
+            Self::Coincident => ("coincident", "Coincident"),
+            Self::Met => ("inner", "Trimmed"),
+            Self::Outer => ("outer", "OuterRound"),
+            Self::Reversal => ("reversal", "ReversalRound"),
+            Self::CollapsedSide | Self::NoMeeting | Self::Missed => ("inner", "InvalidInnerGap"),
+            Self::ZeroTangent => ("zero_tangent", "InvalidDegenerateGap"),
+            Self::SameDirection => ("same_direction", "InvalidDegenerateGap"),
+        }
+    }
+}
 
 /// What comes of asking for a point on an arc.
 const ARC_WAYS: &[Event] = &[
@@ -187,23 +176,23 @@ impl Fragment {
             eps: self.eps,
         };
         let join = trace.join(set, &current, &next, self.vertices[1].pos());
-        let outcome = trace.outcomes().next().expect("each join has one outcome");
-        joined(outcome, &join)
+        joined(&join)
     }
 }
 
-fn joined((pair, (cause, number, class)): (Pair, Outcome), join: &Join) -> Joined {
+fn joined(join: &Join) -> Joined {
+    let (cause, class) = join.cause.names();
     Joined {
-        pair,
+        pair: join.pair,
         cause,
-        number,
+        number: join.cause as u32,
         class,
         end: join.end,
         end_param: join.end_param,
         start: join.start,
         start_param: join.start_param,
         bulge: join.bulge,
-        invalid: join.invalid,
+        invalid: Reason::of_connector(join.cause).is_flagged(),
         rules: [join.end_rule, join.start_rule],
     }
 }
@@ -211,10 +200,8 @@ fn joined((pair, (cause, number, class)): (Pair, Outcome), join: &Join) -> Joine
 /// Each join of a job's walk with its three vertices: that after segment 0, and so on, a closed job's
 /// closing one last. None where the job is answered without a walk.
 pub fn joins(job: &Job) -> Option<Vec<(Fragment, Joined)>> {
-    let mut trace = Trace::new();
-    let walk = trace.walked(job)?;
-    let outcomes = trace.outcomes().zip(&walk.joins);
-    let mut joins: Vec<Joined> = outcomes.map(|(told, join)| joined(told, join)).collect();
+    let walk = Trace::new().walked(job)?;
+    let mut joins: Vec<Joined> = walk.joins.iter().map(joined).collect();
     if job.closed {
         // It is made first.
         joins.rotate_left(1);
@@ -237,7 +224,9 @@ fn fragments(job: &Job) -> impl Iterator<Item = Fragment> {
 /// answered without a walk.
 pub fn spans(job: &Job) -> Option<Vec<[Option<Rule>; 2]>> {
     let walk = Trace::new().walked(job)?;
-    Some(walk.moves.iter().filter_map(|step| step.span).collect())
+    let whys = walk.moves.iter().map(|step| &step.why);
+    let spans = whys.filter(|why| matches!(why.origin, Origin::Span(_)));
+    Some(spans.map(|why| why.rules).collect())
 }
 
 /// The directions at both ends of an offset segment.
@@ -251,7 +240,7 @@ pub fn tangents(v1: PlineVertex, v2: PlineVertex, offset: f64) -> [Vector2; 2] {
 pub fn span(v1: PlineVertex, v2: PlineVertex, offset: f64, from: f64, to: f64) -> (f64, bool) {
     let mut trace = Trace::new();
     let segment = trace.segment(v1, v2, offset);
-    let invalid = trace.span_is_invalid(&segment, from, to);
+    let invalid = trace.span_reason(&segment, from, to).is_flagged();
     (segment.bulge(from, to), invalid)
 }
 
@@ -273,7 +262,8 @@ pub fn equally_near(first: f64, second: f64, eps: f64) -> bool {
 /// The bulge of a round connector about `shared`.
 pub fn round(end: Vector2, start: Vector2, shared: Vector2, offset: f64) -> f64 {
     let set = Setting { offset, eps: 1e-5 };
-    Trace::new().round(set, end, start, shared).bulge
+    let join = Trace::new().round(set, Cause::Outer, [end, start], shared);
+    join.bulge
 }
 
 /// What two sides come to, and whether a parameter on an arc was asked for at the last point tried.
@@ -286,10 +276,9 @@ pub fn meeting(current: &Side, next: &Side, shared: Vector2, eps: f64) -> (Met, 
         params: [on_current.param, on_next.param],
         rules: [on_current.rule, on_next.rule],
     });
-    let met = met.ok_or(if trace.happened(Event::NoMeeting) {
-        "none"
-    } else {
-        "missed"
+    let met = met.map_err(|cause| match cause {
+        Cause::NoMeeting => "none",
+        _ => "missed",
     });
     (met, trace.asked_arc())
 }
@@ -302,17 +291,5 @@ impl Trace {
             _ => ARC_WAYS.contains(event).then_some(true),
         });
         last.unwrap_or(false)
-    }
-
-    /// What each join came to, in the order in which they were made.
-    fn outcomes(&self) -> impl Iterator<Item = (Pair, Outcome)> {
-        self.events.iter().filter_map(|(pair, event)| {
-            let (_, outcome) = OUTCOMES.iter().find(|(known, _)| known == event)?;
-            Some((*pair, *outcome))
-        })
-    }
-
-    fn happened(&self, event: Event) -> bool {
-        self.events.iter().any(|(_, other)| *other == event)
     }
 }

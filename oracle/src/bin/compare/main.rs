@@ -13,6 +13,9 @@
 //! - `compare rules SEED RANDOM STEERED` holds each join of such jobs, and of the families that 2026-02
 //!   let in, by itself: the proved code's against the traced one, with cause, numbers and rules.
 //! - `compare rules` does so for the jobs that standard input holds, a row each.
+//! - `compare why SEED RANDOM STEERED` asks the proved code of each output segment of such jobs which
+//!   move it is and why its flag is set or clear, and holds the answer to the traced job's.
+//! - `compare why` does so for the jobs that standard input holds, a row each.
 
 #[cfg(with_000)]
 mod cover;
@@ -20,6 +23,8 @@ mod cover;
 mod jobs;
 #[cfg(feature = "layers")]
 mod layers;
+#[cfg(all(any(feature = "layers", feature = "proved"), with_000))]
+mod near;
 #[cfg(with_000)]
 mod newly;
 #[cfg(all(feature = "layers", with_000))]
@@ -28,6 +33,8 @@ mod rules;
 mod sides;
 #[cfg(with_000)]
 mod steered;
+#[cfg(all(feature = "proved", with_000))]
+mod why;
 
 use std::process::exit;
 
@@ -45,7 +52,8 @@ fn main() {
         None => {
             eprintln!(
                 "usage: compare [cover] SEED RANDOM STEERED | bulk SEED JOBS | keyholes SEED JOBS \
-                 | layers SEED COUNT | rules [SEED RANDOM STEERED] | rows"
+                 | layers SEED COUNT | rules [SEED RANDOM STEERED] | why [SEED RANDOM STEERED] \
+                 | rows"
             );
             exit(2);
         }
@@ -82,6 +90,10 @@ fn run_jobs(mode: &str, numbers: &[u64]) -> Option<bool> {
         ("rules", [seed, random, steered]) => Some(rules::compare(*seed, *random, *steered)),
         #[cfg(feature = "layers")]
         ("rules", []) => Some(rules::rows()),
+        #[cfg(feature = "proved")]
+        ("why", [seed, random, steered]) => Some(why::compare(*seed, *random, *steered)),
+        #[cfg(feature = "proved")]
+        ("why", []) => Some(why::rows()),
         _ => None,
     }
 }

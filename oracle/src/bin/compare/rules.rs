@@ -1,25 +1,19 @@
 //! Holds each join of a walk by itself: the proved code's cause, rules and numbers against those of the
 //! traced job, which is held to 000 on the same jobs.
 
-use crate::jobs::{each_plain_job, each_random_job, each_row, each_steered_job};
+use crate::jobs::each_row;
 use crate::layers::alike;
+use crate::near::each_ruled_job;
 use crate::sides::{TRACED, Tally};
-use oracle::generate::{KEYHOLES, Random};
 use oracle::layers::{self, JoinTold};
 use oracle::polyline::PlineVertex;
 use oracle::stage::Job;
-use oracle::text::{any_job_row, bits, read_job};
+use oracle::text::{any_job_row, bits};
 use oracle::traced::parts::{Fragment, Joined, joins};
 use oracle::traced::{Rule, RuleTable};
 
 /// Differences are printed up to this many.
 const SHOWN: u64 = 10;
-
-/// Jobs that reach each rule.
-const SAMPLES: &str = include_str!("../samples/rules.txt");
-
-/// For so many random jobs there is one near a sample: few others have a point past an end.
-const PER_SAMPLE: u64 = 10;
 
 #[derive(Default)]
 struct Joins {
@@ -31,15 +25,9 @@ struct Joins {
     rules: RuleTable,
 }
 
-/// Runs the grids, random jobs of all families and once more of those that 2026-02 let in, jobs near
-/// the samples, and steered ones.
 pub fn compare(seed: u64, random: u64, steered: u64) -> bool {
     let mut held = Joins::default();
-    let mut hold = |family, job: &Job| held.hold(family, job);
-    each_plain_job(seed, random, &mut hold);
-    each_random_job(KEYHOLES, !seed, random, &mut hold);
-    each_near_sample(seed, random / PER_SAMPLE, &mut hold);
-    each_steered_job(seed, steered, &mut hold);
+    each_ruled_job(seed, random, steered, |family, job| held.hold(family, job));
     held.agree()
 }
 
@@ -49,23 +37,6 @@ pub fn rows() -> bool {
     let none = each_row(|job| held.hold("rows", job));
     held.differing += none;
     held.agree()
-}
-
-/// Hands out `count` sample jobs with one or two of their numbers moved a little.
-fn each_near_sample(seed: u64, count: u64, mut take: impl FnMut(&'static str, &Job)) {
-    let rows = SAMPLES.lines().filter(|row| !row.starts_with('#'));
-    let samples: Vec<Job> = rows.map(|row| read_job(row).expect("a job")).collect();
-    let mut random = Random::new(seed);
-    for i in 0..count {
-        let mut job = samples[i as usize % samples.len()].clone();
-        for _ in 0..=random.below(2) {
-            let slot = random.below(job.source.len() + 1);
-            let number = job.source.get_mut(slot).unwrap_or(&mut job.offset);
-            let size = random.size(-12.0, -1.0);
-            *number += random.around(size) * number.abs().max(job.eps);
-        }
-        take("near samples", &job);
-    }
 }
 
 impl Joins {

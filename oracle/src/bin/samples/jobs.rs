@@ -9,6 +9,9 @@ const JOBS: [&str; 2] = [include_str!("settled.txt"), include_str!("jobs.txt")];
 /// Jobs that reach each rule by which a trimmed arc is granted; for joins alone.
 const RULES: &str = include_str!("rules.txt");
 
+/// Jobs that reach each reason why a segment's flag is set or clear.
+const REASONS: &str = include_str!("why.txt");
+
 /// Each job of the two lists.
 pub fn all() -> impl Iterator<Item = Job> {
     JOBS.iter().flat_map(|list| listed(list))
@@ -17,6 +20,11 @@ pub fn all() -> impl Iterator<Item = Job> {
 /// Each job of the list for joins.
 pub fn of_rules() -> impl Iterator<Item = Job> {
     listed(RULES)
+}
+
+/// Each job of the list for reasons.
+pub fn of_reasons() -> impl Iterator<Item = Job> {
+    listed(REASONS)
 }
 
 fn listed(list: &'static str) -> impl Iterator<Item = Job> {

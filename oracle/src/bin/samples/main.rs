@@ -21,6 +21,8 @@ mod programs;
 mod rows;
 #[cfg(with_000)]
 mod stored;
+#[cfg(with_000)]
+mod why;
 
 #[cfg(not(with_000))]
 fn main() {
@@ -39,6 +41,7 @@ fn main() -> std::io::Result<()> {
         }
         [program, folder] if program == "floats_main" => floats::write(folder.as_ref()),
         [program, folder] if program == "jobs_main" => stored::write(folder.as_ref()),
+        [program, folder] if program == "why_main" => why::write(folder.as_ref()),
         [program, folder] => programs::write(program, folder.as_ref()),
         _ => {
             eprintln!("samples: [PROGRAM FOLDER]");

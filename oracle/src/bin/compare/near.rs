@@ -1,0 +1,53 @@
+//! Jobs near samples, and among others.
+
+use crate::jobs::{each_plain_job, each_random_job, each_steered_job};
+use oracle::generate::{KEYHOLES, Random};
+use oracle::stage::Job;
+use oracle::text::read_job;
+
+/// For so many random jobs there is one near a sample: few others have a point past an end.
+const PER_SAMPLE: u64 = 10;
+
+/// Jobs that reach each rule by which a trimmed arc is granted.
+const RULES: &str = include_str!("../samples/rules.txt");
+
+/// Hands out the jobs of the grids, random ones of all families and once more of those that 2026-02
+/// let in, jobs near the samples, and steered ones.
+pub fn each_ruled_job(
+    seed: u64,
+    random: u64,
+    steered: u64,
+    mut take: impl FnMut(&'static str, &Job),
+) {
+    each_plain_job(seed, random, &mut take);
+    each_random_job(KEYHOLES, !seed, random, &mut take);
+    each_near_sample(RULES, seed, random / PER_SAMPLE, &mut take);
+    each_steered_job(seed, steered, take);
+}
+
+/// The jobs of a list of samples.
+pub fn samples(list: &str) -> Vec<Job> {
+    let rows = list.lines().filter(|row| !row.starts_with('#'));
+    rows.map(|row| read_job(row).expect("a job")).collect()
+}
+
+/// Hands out `count` jobs of a list of samples with one or two of their numbers moved a little.
+pub fn each_near_sample(
+    list: &str,
+    seed: u64,
+    count: u64,
+    mut take: impl FnMut(&'static str, &Job),
+) {
+    let samples = samples(list);
+    let mut random = Random::new(seed);
+    for i in 0..count {
+        let mut job = samples[i as usize % samples.len()].clone();
+        for _ in 0..=random.below(2) {
+            let slot = random.below(job.source.len() + 1);
+            let number = job.source.get_mut(slot).unwrap_or(&mut job.offset);
+            let size = random.size(-12.0, -1.0);
+            *number += random.around(size) * number.abs().max(job.eps);
+        }
+        take("near samples", &job);
+    }
+}
