@@ -252,6 +252,63 @@ fn a_job_is_refused_as_its_drawing_is() {
     assert_eq!(eps, Err(Refusal::BadNumber(Bad::Eps)));
 }
 
+/// Goes up and down by 1, so that both connectors of a corner and trimmed spans come.
+fn zigzag(count: usize) -> Vec<Vertex> {
+    (0..count)
+        .map(|i| [i as f64, (i % 2) as f64, 0.0])
+        .collect()
+}
+
+#[test]
+fn the_most_vertices_are_taken_and_one_more_is_not() {
+    for job in [
+        open(0.125, &zigzag(MOST_VERTICES)),
+        closed(-0.125, &zigzag(MOST_VERTICES)),
+        open(-0.0, &zigzag(MOST_VERTICES)),
+    ] {
+        let flags = job.drawing().flags;
+        let count = flags.len() as u32;
+        assert!(count >= MOST_VERTICES as u32 - 1);
+        for segment in [0, 1, count / 2, count - 2, count - 1] {
+            let invalid = job.told(segment).reason.is_invalid();
+            assert_eq!(u8::from(invalid), flags[segment as usize]);
+        }
+        for segment in [count, count + 1, u32::MAX] {
+            assert_eq!(job.why(segment), Err(Refusal::NoSuchSegment));
+        }
+    }
+    let more = zigzag(MOST_VERTICES + 1);
+    assert_refused(&open(0.125, &more), Refusal::TooMany);
+    assert_refused(&closed(0.0, &more), Refusal::TooMany);
+}
+
+#[test]
+fn limits_are_taken_and_the_next_double_is_not() {
+    let bad = |place| Err(Refusal::BadNumber(place));
+    for (part, limit) in [(0, 1e6_f64), (1, 1e6), (2, 1e9)] {
+        for sign in [1.0, -1.0] {
+            let mut vertices = LINE;
+            vertices[1][part] = sign * limit;
+            assert!(open(1.0, &vertices).why(0).is_ok());
+            for past in [limit.next_up(), f64::INFINITY, f64::NAN] {
+                vertices[1][part] = sign * past;
+                assert_eq!(open(1.0, &vertices).why(0), bad(Bad::Vertex(1)));
+            }
+        }
+    }
+    for sign in [1.0, -1.0] {
+        assert!(open(sign * 1e6, &LINE).why(0).is_ok());
+        for past in [1e6_f64.next_up(), f64::INFINITY, f64::NAN] {
+            assert_eq!(open(sign * past, &LINE).why(0), bad(Bad::Offset));
+        }
+    }
+    let by_eps = |eps| why(LINE.as_flattened(), false, 1.0, eps, 0);
+    assert!(by_eps(1e-9).is_ok() && by_eps(0.01).is_ok());
+    for eps in [1e-9_f64.next_down(), 0.01_f64.next_up(), -1e-5, f64::NAN] {
+        assert_eq!(by_eps(eps), bad(Bad::Eps));
+    }
+}
+
 #[test]
 fn nothing_has_no_segment() {
     for vertices in [&[][..], &LINE[..1]] {
