@@ -18,10 +18,10 @@ use Rattle.vectors.specs.declared.Vector2.{Vector2}
 use Rattle.segments.specs.Vertex.{vertexAt}
 use Rattle.moves.specs.declared.Move.{Move}
 use Rattle.moves.specs.Reason.{invalidMove}
-use Rattle.moves.specs.Drawing.{Drawing, moveEnd, kept, lastPoint, corners, flagsOf, bit, mark, marks, drawnClosed}
+use Rattle.moves.specs.Drawing.{Drawing, moveEnd, kept, lastPoint, corners, flagsOf, bit, mark, marks, originsOf, drawnClosed}
 use Rattle.moves.specs.Closing.{walked, lastRemoved, lone, closedBy}
 use Rattle.moves.proofs.Kept as K
-use Rattle.moves.proofs.Lists.{corners-snoc, flagsOf-snoc, marks-snoc}
+use Rattle.moves.proofs.Lists.{corners-snoc, flagsOf-snoc, marks-snoc, originsOf-snoc}
 
 -- the closing move is kept where the last kept point is not near the first vertex
 pub closing : (e : Float) (p : Vector2) (ms : List Move) (c : Move) → c .end ≡ p
@@ -37,7 +37,7 @@ closing e p ms c h = K.kept-append moveEnd (λ x y. near x y e) p ms (c ∷ []) 
     by false k = rw (K.kept-one-far moveEnd (λ x y. near x y e) q c (ap (λ x. near q x e) h ∙ k))
 
 abbrev ring : Vector2 → List Move → Drawing
-ring p ks = record { vertices = corners p ks; flags = flagsOf ks; indexes = marks 0 ks; closed = true }
+ring p ks = record { vertices = corners p ks; flags = flagsOf ks; indexes = marks 0 ks; origins = originsOf ks; closed = true }
 
 drawn-lone : (p : Vector2) (ks : List Move) → drawnClosed p ks ≡ lone (ring p ks)
 unfolding drawnClosed lone corners when_give_else_
@@ -57,6 +57,7 @@ dropped : (p : Vector2) (ks : List Move)
       vertices = when leb 2 (length (walked p ks)) give lastRemoved (walked p ks) else walked p ks;
       flags = flagsOf ks;
       indexes = marks 0 ks;
+      origins = originsOf ks;
       closed = true;
     })
 unfolding when_give_else_ drawnClosed lone corners
@@ -76,12 +77,14 @@ closing-rule e p ms c h = sym (ap (drawnClosed p) (closing e p ms c h) ∙ by (n
           vertices = when leb 2 (length (walked p ks)) give lastRemoved (walked p ks) else walked p ks;
           flags = flagsOf ks;
           indexes = marks 0 ks;
+          origins = originsOf ks;
           closed = true;
         } else record {
           vertices = corners p ks ++ vertexAt (lastPoint p ks) (c .bulge) ∷ [];
           flags = flagsOf ks ++ bit (invalidMove c) ∷ [];
           indexes = marks 0 ks ++ mark (invalidMove c) (length ks) [];
+          origins = originsOf ks ++ c .origin ∷ [];
           closed = true;
         })
     by true ks = dropped p ks
-    by false ks = rw (← corners-snoc p ks c, ← flagsOf-snoc ks c, ← zero-add (length ks), ← marks-snoc 0 ks c) (drawn-lone p (ks ++ c ∷ []))
+    by false ks = rw (← corners-snoc p ks c, ← flagsOf-snoc ks c, ← zero-add (length ks), ← marks-snoc 0 ks c, ← originsOf-snoc ks c) (drawn-lone p (ks ++ c ∷ []))

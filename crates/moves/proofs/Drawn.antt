@@ -17,7 +17,7 @@ use Rattle.segments.specs.Vertex.{posOf, vertexAt}
 use Rattle.moves.specs.declared.Move.{Move}
 use Rattle.moves.specs.Reason.{invalidMove}
 use Rattle.moves.specs.Moves as M
-use Rattle.moves.specs.Drawing.{Drawing, nothing, moveEnd, kept, lastPoint, corners, flagsOf, marks, mark, bit, drawnOpen, drawnClosed}
+use Rattle.moves.specs.Drawing.{Drawing, nothing, moveEnd, kept, lastPoint, corners, flagsOf, marks, mark, bit, originsOf, drawnOpen, drawnClosed}
 use Rattle.moves.specs.Choice.{Apart, Rising}
 use Rattle.moves.specs.Choice.Apart.{none, one, more}
 use Rattle.moves.specs.Choice.Rising.{none as rnone, next}
@@ -135,10 +135,10 @@ flag-bits (k ∷ ks) (suc i) = flag-bits ks i
 
 -- ---- the drawings
 
--- what is left to show of a drawing that has the flags and indexes of ks: its vertices and its number of segments
-marked-sound : (e : Float) (ks : List Move) (d : Drawing) → d .flags ≡ flagsOf ks → d .indexes ≡ marks 0 ks → segmentCount d ≡ length ks
+-- what is left to show of a drawing that has the flags, indexes and origins of ks: its vertices and its number of segments
+marked-sound : (e : Float) (ks : List Move) (d : Drawing) → d .flags ≡ flagsOf ks → d .indexes ≡ marks 0 ks → d .origins ≡ originsOf ks → segmentCount d ≡ length ks
     → (length (d .vertices) ≡ 1 → ⊥) → Apart (λ a b. near a b e) (map posOf (d .vertices)) → Sound e ks d
-marked-sound e ks d f x n o a = record {
+marked-sound e ks d f x z n o a = record {
   never-one = o;
   apart = a;
   segments = n;
@@ -149,11 +149,12 @@ marked-sound e ks d f x n o a = record {
   flagged = λ i. rw (x, f) ((λ m. flags-at ks i .0 (marks-exact ks i .0 m)), (λ h. marks-exact ks i .1 (flags-at ks i .1 h)));
   invalid = λ i. rw x (marks-exact ks i);
   below = λ i m. rw n (invalid-below ks i (marks-exact ks i .0 (rw x at m)));
+  origins = z;
 }
 
 nothing-sound : (e : Float) → Sound e [] nothing
-unfolding segmentCount when_give_else_ flagsOf marks
-nothing-sound e = marked-sound e [] nothing refl refl refl (λ h. omega arith) none
+unfolding segmentCount when_give_else_ flagsOf marks originsOf
+nothing-sound e = marked-sound e [] nothing refl refl refl refl (λ h. omega arith) none
 
 open-sound′ : (e : Float) (p : Vector2) (ks : List Move) → Apart (λ a b. near a b e) (p ∷ map moveEnd ks) → Sound e ks (drawnOpen p ks)
 unfolding drawnOpen segmentCount when_give_else_
@@ -161,7 +162,7 @@ open-sound′ e p [] a = nothing-sound e
 open-sound′ e p (k ∷ ks) a =
     let l = length-corners p (k ∷ ks) in
     let q = length-append (corners p (k ∷ ks)) (vertexAt (lastPoint p (k ∷ ks)) plus-zero ∷ []) in
-    marked-sound e (k ∷ ks) (drawnOpen p (k ∷ ks)) refl refl (omega arith) (λ h. omega arith) (rw (open-points p (k ∷ ks) plus-zero) a)
+    marked-sound e (k ∷ ks) (drawnOpen p (k ∷ ks)) refl refl refl (omega arith) (λ h. omega arith) (rw (open-points p (k ∷ ks) plus-zero) a)
 
 pub open-sound : (e : Float) (p : Vector2) (ms : List Move) → Sound e (kept e p ms) (drawnOpen p (kept e p ms))
 open-sound e p ms = open-sound′ e p (kept e p ms) (C.kept-apart moveEnd (λ a b. near a b e) p ms)
@@ -172,7 +173,7 @@ closed-sound′ e p [] o a = nothing-sound e
 closed-sound′ e p (k ∷ []) o a = absurd (o refl)
 closed-sound′ e p (k ∷ j ∷ ks) o a =
     let l = length-corners p (k ∷ j ∷ ks) in
-    marked-sound e (k ∷ j ∷ ks) (drawnClosed p (k ∷ j ∷ ks)) refl refl (omega arith) (λ h. omega arith)
+    marked-sound e (k ∷ j ∷ ks) (drawnClosed p (k ∷ j ∷ ks)) refl refl refl (omega arith) (λ h. omega arith)
     (apart-front (map posOf (corners p (k ∷ j ∷ ks))) (lastPoint p (k ∷ j ∷ ks)) (rw (corners-points p (k ∷ j ∷ ks)) a))
 
 -- A closed walk of two moves or more, whose closing move c ends at the first vertex, never keeps exactly one move.

@@ -1,5 +1,7 @@
 pub mod Laws
+pub mod Origins
 pub mod Kept
+pub mod Rows
 pub mod Lists
 pub mod Shapes
 pub mod Finite

@@ -10,9 +10,10 @@ use Rattle.vectors.specs.declared.Vector2.{Vector2}
 use Rattle.segments.specs.declared.PlineVertex.{PlineVertex}
 use Rattle.segments.specs.Vertex.{vertexAt}
 use Rattle.moves.specs.declared.Move.{Move}
+use Rattle.moves.specs.declared.Origin.{Origin}
 use Rattle.moves.specs.Moves as M
 use Rattle.moves.specs.Reason.{invalidMove}
-use Rattle.moves.specs.Drawing.{lastPoint, corners, flagsOf, marks, mark, bit}
+use Rattle.moves.specs.Drawing.{lastPoint, corners, flagsOf, marks, mark, bit, originsOf}
 
 -- ---- one move more
 
@@ -25,6 +26,11 @@ pub flagsOf-snoc : (ks : List Move) (m : Move) → flagsOf (ks ++ m ∷ []) ≡ 
 unfolding flagsOf
 flagsOf-snoc [] m = refl
 flagsOf-snoc (k ∷ ks) m = ap (λ (t : List ℕ). bit (invalidMove k) ∷ t) (flagsOf-snoc ks m)
+
+pub originsOf-snoc : (ks : List Move) (m : Move) → originsOf (ks ++ m ∷ []) ≡ originsOf ks ++ m .origin ∷ []
+unfolding originsOf
+originsOf-snoc [] m = refl
+originsOf-snoc (k ∷ ks) m = ap (λ (t : List Origin). k .origin ∷ t) (originsOf-snoc ks m)
 
 mark-append : (b : Bool) (k : ℕ) (xs ys : List ℕ) → mark b k (xs ++ ys) ≡ mark b k xs ++ ys
 mark-append true k xs ys = refl
@@ -49,6 +55,11 @@ pub length-flagsOf : (ks : List Move) → length (flagsOf ks) ≡ length ks
 unfolding flagsOf
 length-flagsOf [] = refl
 length-flagsOf (k ∷ ks) = ap suc (length-flagsOf ks)
+
+pub length-originsOf : (ks : List Move) → length (originsOf ks) ≡ length ks
+unfolding originsOf
+length-originsOf [] = refl
+length-originsOf (k ∷ ks) = ap suc (length-originsOf ks)
 
 length-mark : (b : Bool) (k : ℕ) (xs : List ℕ) → length (mark b k xs) ≤ suc (length xs)
 length-mark true k xs = omega arith

@@ -35,3 +35,8 @@ pub data Apart {P : Type 0} (close : P → P → Bool) : List P → Type 0 where
 pub data Rising : ℕ → List ℕ → Type 0 where
   none : {n : ℕ} → Rising n []
   next : {n i : ℕ} {is : List ℕ} → n ≤ i → Rising (suc i) is → Rising n (i ∷ is)
+
+-- numbers that never fall, the first at least n
+pub data NeverFalling : ℕ → List ℕ → Type 0 where
+  none : {n : ℕ} → NeverFalling n []
+  next : {n i : ℕ} {is : List ℕ} → n ≤ i → NeverFalling i is → NeverFalling n (i ∷ is)

@@ -13,7 +13,7 @@ use Rattle.segments.specs.declared.PlineVertex.{PlineVertex}
 use Rattle.segments.specs.Vertex.{vertexAt}
 use Rattle.moves.specs.declared.Move.{Move}
 use Rattle.moves.specs.Reason.{invalidMove}
-use Rattle.moves.specs.Drawing.{Drawing, nothing, lastPoint, corners, flagsOf, bit, mark, marks}
+use Rattle.moves.specs.Drawing.{Drawing, nothing, lastPoint, corners, flagsOf, bit, mark, marks, originsOf}
 
 -- the vertices of the kept moves ks from p, the last one with bulge 0
 abbrev pub walked : Vector2 → List Move → List PlineVertex
@@ -28,7 +28,7 @@ unfoldable pub lone : Drawing → Drawing
 lone d = when leb (length (d .vertices)) 1 give nothing else d
 
 -- The closing move c, which ends at the first vertex p: where the last kept point is within e of p, it is dropped and, with more than one vertex, the last one is
--- removed; otherwise its bulge goes on the last vertex, and it has a flag and, where it is invalid, an index.
+-- removed; otherwise its bulge goes on the last vertex, and it has a flag, an origin and, where it is invalid, an index.
 unfoldable pub closedBy : Float → Vector2 → List Move → Move → Drawing
 closedBy e p ks c =
     lone
@@ -36,10 +36,12 @@ closedBy e p ks c =
       vertices = when leb 2 (length (walked p ks)) give lastRemoved (walked p ks) else walked p ks;
       flags = flagsOf ks;
       indexes = marks 0 ks;
+      origins = originsOf ks;
       closed = true;
     } else record {
       vertices = corners p ks ++ vertexAt (lastPoint p ks) (c .bulge) ∷ [];
       flags = flagsOf ks ++ bit (invalidMove c) ∷ [];
       indexes = marks 0 ks ++ mark (invalidMove c) (length ks) [];
+      origins = originsOf ks ++ c .origin ∷ [];
       closed = true;
     })

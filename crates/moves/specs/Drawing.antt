@@ -1,4 +1,4 @@
--- What kept moves draw: vertices, a flag for each segment, the numbers of the invalid ones, and the closed mark (01 §2). Definitions only.
+-- What kept moves draw: vertices, a flag for each segment, the numbers of the invalid ones, an origin for each segment (02's 2026-09), and the closed mark (01 §2). Definitions only.
 use Prim.Native.Nat.{ℕ, suc}
 use mathlib.Core.List.{List, [], _∷_, _++_}
 use mathlib.Core.Bool.{Bool, true, false}
@@ -12,6 +12,7 @@ use Rattle.vectors.specs.declared.Vector2.{Vector2}
 use Rattle.segments.specs.declared.PlineVertex.{PlineVertex}
 use Rattle.segments.specs.Vertex.{vertexAt}
 use Rattle.moves.specs.declared.Move.{Move}
+use Rattle.moves.specs.declared.Origin.{Origin}
 use Rattle.moves.specs.declared.RawOffsetResult.{RawOffsetResult}
 use Rattle.moves.specs.Reason.{invalidMove}
 use Rattle.moves.specs.Moves as M
@@ -50,15 +51,21 @@ unfoldable pub marks : ℕ → List Move → List ℕ
 marks k [] = []
 marks k (m ∷ ms) = mark (invalidMove m) k (marks (suc k) ms)
 
+-- an origin for each kept move
+unfoldable pub originsOf : List Move → List Origin
+originsOf [] = []
+originsOf (m ∷ ms) = m .origin ∷ originsOf ms
+
 pub record Drawing : Type 0 where
   pub vertices : List PlineVertex
   pub flags : List ℕ
   pub indexes : List ℕ
+  pub origins : List Origin
   pub closed : Bool
 
 -- an empty open drawing
 abbrev pub nothing : Drawing
-nothing = record { vertices = []; flags = []; indexes = []; closed = false }
+nothing = record { vertices = []; flags = []; indexes = []; origins = []; closed = false }
 
 -- Open: a last vertex with bulge 0 stands where the kept moves end. A lone vertex draws nothing.
 unfoldable pub drawnOpen : Vector2 → List Move → Drawing
@@ -67,6 +74,7 @@ drawnOpen p (m ∷ ms) = record {
   vertices = corners p (m ∷ ms) ++ vertexAt (lastPoint p (m ∷ ms)) zero ∷ [];
   flags = flagsOf (m ∷ ms);
   indexes = marks 0 (m ∷ ms);
+  origins = originsOf (m ∷ ms);
   closed = false;
 }
 
@@ -78,6 +86,7 @@ drawnClosed p (m ∷ m′ ∷ ms) = record {
   vertices = corners p (m ∷ m′ ∷ ms);
   flags = flagsOf (m ∷ m′ ∷ ms);
   indexes = marks 0 (m ∷ m′ ∷ ms);
+  origins = originsOf (m ∷ m′ ∷ ms);
   closed = true;
 }
 

@@ -1,5 +1,6 @@
 -- What the pen does with one move, and the strokes that a row of kept moves is drawn by. No rule rests on these: `proofs/Strokes.antt` ties them to the lists of
 -- `Drawing`. Definitions only.
+use mathlib.Core.Path.{_≡_}
 use Prim.Native.Nat.{ℕ, suc, _+_, _≤_}
 use mathlib.Core.List.{List, [], _∷_}
 use mathlib.Core.Bool.{Bool, true, false, not}
@@ -51,8 +52,9 @@ doubtOf false = nan
 abbrev pub sure : Float → Bool
 sure x = not (isNan x)
 
--- a drawing fits `room` places
+-- a drawing fits `room` places, and has as many origins as flags
 pub record Fits (room : ℕ) (d : Drawing) : Type 0 where
   pub vertices : length (d .vertices) ≤ room
   pub flags : length (d .flags) ≤ room
   pub indexes : length (d .indexes) ≤ room
+  pub origins : length (d .origins) ≡ length (d .flags)

@@ -1,5 +1,6 @@
 pub mod Reason
 pub mod Made
+pub mod Origins
 pub mod Moves
 pub mod Drawing
 pub mod Closing

@@ -11,7 +11,7 @@ use Rattle.vectors.specs.Plane.{near}
 use Rattle.segments.specs.Vertex.{posOf}
 use Rattle.moves.specs.declared.Move.{Move}
 use Rattle.moves.specs.Reason.{invalidMove}
-use Rattle.moves.specs.Drawing.{Drawing, bit}
+use Rattle.moves.specs.Drawing.{Drawing, bit, originsOf}
 use Rattle.moves.specs.Choice.{Apart, Rising}
 
 -- move i of a row is there and is invalid
@@ -30,7 +30,7 @@ unfoldable pub segmentCount : Drawing → ℕ
 segmentCount d = when d .closed give length (d .vertices) else length (d .vertices) - 1
 
 -- A drawing of the kept moves ks at tolerance e: it never has one vertex, and neighbours are never within e; each kept move is a segment with a flag; the indexes rise,
--- are as many as the invalid moves, and are the places of the flags that are set and of the moves that are invalid.
+-- are as many as the invalid moves, and are the places of the flags that are set and of the moves that are invalid; the origins are those of the kept moves, in order.
 pub record Sound (e : Float) (ks : List Move) (d : Drawing) : Type 0 where
   pub never-one : length (d .vertices) ≡ 1 → ⊥
   pub apart : Apart (λ a b. near a b e) (map posOf (d .vertices))
@@ -42,3 +42,4 @@ pub record Sound (e : Float) (ks : List Move) (d : Drawing) : Type 0 where
   pub flagged : (i : ℕ) → List·Memᴰ i (d .indexes) ↔ (getD (d .flags) i 0 ≡ 1)
   pub invalid : (i : ℕ) → List·Memᴰ i (d .indexes) ↔ (invalidAt ks i ≡ true)
   pub below : (i : ℕ) → List·Memᴰ i (d .indexes) → i < segmentCount d
+  pub origins : d .origins ≡ originsOf ks

@@ -6,6 +6,7 @@ ghost use Rattle.floats.specs.Choice.{when_give_else_, _and_};
 ghost use Rattle.segments.specs.InnerSteps.{fullSeg};
 ghost use Rattle.moves.specs.Reason.{reasonNumber, spanReason, connectorReason, isInvalid};
 ghost use Rattle.moves.specs.Made.{segmentOf, isConnector, spanMove, connectorMove};
+ghost use Rattle.moves.specs.Origins.{codeOf, originOf};
 ghost use Rattle.moves.specs.Drawing.{finiteVertex, emptyResult};
 ghost use Rattle.moves.specs.InnerSteps.{penAt, penAfter, stepOf, withBulge, doubtOf};
 use joins::JoinBoundary;
@@ -39,6 +40,28 @@ impl Origin {
             Origin::Span(_) => false,
             Origin::Connector(_) => true,
         }
+    }
+
+    // Its number in a lent buffer (2026-09).
+    pub fn code(self) -> u32
+        requires { ⌜ segmentOf self < 0x8000_0000 ⌝ }
+        ensures { λ r. ⌜ r ≡ codeOf self ⌝ }
+    {
+        match self {
+            Origin::Span(source) => 2 * source.0,
+            Origin::Connector(source) => 2 * source.0 + 1,
+        }
+    }
+
+    // The origin that a number in a lent buffer stands for.
+    pub fn of_code(code: u32) -> Origin
+        ensures { λ r. ⌜ r ≡ originOf code ⌝ }
+    {
+        let source = SourceSegment(code / 2);
+        if code % 2 == 0 {
+            return Origin::Span(source);
+        }
+        Origin::Connector(source)
     }
 }
 

@@ -1,11 +1,12 @@
 -- The moves of a walk over a source (01 §2, Moves; 000's build_open and build_closed), and what the kept ones draw. A segment is worked out anew from its vertices
 -- wherever it is named. Definitions only.
-use Prim.Native.Nat.{ℕ, suc}
+use Prim.Native.Nat.{ℕ, zero, suc}
 use mathlib.Core.List.{List, [], _∷_, _++_}
 use mathlib.Core.Bool.{Bool, true, false}
 use lib.ListN.{length, replicate}
 use lib.Ieee.{Float}
-use Rattle.floats.specs.Binary64.{zero, one}
+use Rattle.floats.specs.Binary64 as B
+use Rattle.floats.specs.Binary64.{one}
 use Rattle.floats.specs.Choice.{when_give_else_}
 use Rattle.vectors.specs.Plane.{near}
 use Rattle.vectors.specs.declared.Vector2.{Vector2}
@@ -18,6 +19,8 @@ use Rattle.source.specs.Source.{segmentsOf}
 use Rattle.joins.specs.declared.JoinBoundary.{JoinBoundary}
 use Rattle.joins.specs.Join.{joinOf}
 use Rattle.moves.specs.declared.Move.{Move}
+use Rattle.moves.specs.declared.Origin.{Origin}
+use Rattle.moves.specs.declared.Origin.the-variants.{Span}
 use Rattle.moves.specs.Made.{spanMove, connectorMove}
 use Rattle.moves.specs.Drawing.{Drawing, nothing, kept, drawnOpen, drawnClosed}
 
@@ -66,7 +69,7 @@ unfoldable pub walkMoves : Bool → Settings → PlineVertex → PlineVertex →
 walkMoves closed σ a b vs =
     let closing = closingJoin σ a b vs in
     when closed give walk (closedLast closing (σ .eps)) σ 0 a b (closing .«next_param») (vs ++ a ∷ []) else
-    walk openLast σ 0 a b zero vs
+    walk openLast σ 0 a b B.zero vs
 
 -- what the kept ones draw
 unfoldable pub walkDrawing : Bool → Settings → PlineVertex → PlineVertex → List PlineVertex → Drawing
@@ -89,6 +92,13 @@ drawingOf closed σ [] = nothing
 drawingOf closed σ (a ∷ []) = nothing
 drawingOf closed σ (a ∷ b ∷ vs) = when loneCollapsed closed σ (a ∷ b ∷ vs) give nothing else walkDrawing closed σ a b vs
 
--- an offset of zero: the source and its closed mark, no flag set
+-- the spans of n segments, from segment i on
+unfoldable pub spansFrom : ℕ → ℕ → List Origin
+spansFrom i zero = []
+spansFrom i (suc n) = Span (record { 0 = i }) ∷ spansFrom (suc i) n
+
+-- an offset of zero: the source and its closed mark, no flag set; each segment is its own span
 unfoldable pub copied : Bool → List PlineVertex → Drawing
-copied closed vs = record { vertices = vs; flags = replicate (segmentsOf closed (length vs)) 0; indexes = []; closed = closed }
+copied closed vs =
+    let n = segmentsOf closed (length vs) in
+    record { vertices = vs; flags = replicate n 0; indexes = []; origins = spansFrom 0 n; closed = closed }
