@@ -1,11 +1,12 @@
 // The stage for callers in C and Rust: one function, by its C name.
 ghost use mathlib.Core.Path.{_≡_};
+ghost use Rattle.moves.specs.Origins.{originsIn};
 ghost use Rattle.sheet.specs.Buffers.{buffers};
 ghost use Rattle.job.specs.Job.{jobOf};
 ghost use Rattle.blidrosk.specs.Handed.{handed, handedOf};
 use segments::Settings;
 
-// Offsets a drawing into the three lent buffers, and returns the number of the answer. `answer` is
+// Offsets a drawing into the four lent buffers, and returns the number of the answer. `answer` is
 // set to number, place, count of vertices, count of indexes, and 1 where the drawing is closed.
 #[no_mangle]
 pub extern "C" fn blidrosk_raw_offset(
@@ -16,13 +17,14 @@ pub extern "C" fn blidrosk_raw_offset(
     vertices: &mut [f64],
     flags: &mut [u8],
     indexes: &mut [u32],
+    origins: &mut [u32],
     answer: &mut [u32; 5],
 ) -> u32
-    ensures { λ r. ⌜ handed r (now (answer .exit)) (buffers (now (vertices .exit)) (now (flags .exit)) (now (indexes .exit)))
-        ≡ handedOf (jobOf (now (source .entry)) closed (record { offset = offset; eps = eps }) (buffers (now (vertices .entry)) (now (flags .entry)) (now (indexes .entry)))) ⌝ }
+    ensures { λ r. ⌜ handed r (now (answer .exit)) (buffers (now (vertices .exit)) (now (flags .exit)) (now (indexes .exit)) (originsIn (now (origins .exit))))
+        ≡ handedOf (jobOf (now (source .entry)) closed (record { offset = offset; eps = eps }) (buffers (now (vertices .entry)) (now (flags .entry)) (now (indexes .entry)) (originsIn (now (origins .entry))))) ⌝ }
 {
     let settings = Settings { offset, eps };
-    let a = job::create_raw_offset(source, closed, settings, vertices, flags, indexes);
+    let a = job::create_raw_offset(source, closed, settings, vertices, flags, indexes, origins);
     let n = a.number();
     let k = a.place();
     let r = a.result();

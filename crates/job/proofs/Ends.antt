@@ -71,19 +71,28 @@ module _ (s : List Float) (closed : Bool) (σ : Settings) (old : Buffers) where
 -- ---- from No. 4 on. The code has n segments, and the answer t of its test of the room.
 
 module _ (s : List Float) (closed : Bool) (v : ℕ) (old : Buffers) (n : ℕ) (t : Bool) (h : n ≡ segmentsOf closed v)
-    (r : t ≡ (leb (2 * n) (length (old .vertices) / 3) and (leb (2 * n) (length (old .flags)) and leb (2 * n) (length (old .indexes))))) where
+    {o : ℕ} (k : length (old .origins) ≡ o)
+    (r : t ≡ (leb (2 * n) (length (old .vertices) / 3) and (leb (2 * n) (length (old .flags)) and (leb (2 * n) (length (old .indexes)) and leb (2 * n) o)))) where
   abbrev fits : Bool
   fits = hasRoom old (roomFor closed v)
 
   tested : t ≡ fits
   unfolding hasRoom roomFor
-  tested = r ∙ rw h
+  tested = r ∙ rw (h, k)
 
   pub ready : Counted v s → not t ≡ false → Ready v (roomFor closed v) s old
   unfolding roomFor
-  ready k f =
-      let fit = all-fit (2 * n) (length (old .vertices) / 3) (length (old .flags)) (length (old .indexes)) (sym r ∙ not-false t f) in
-      record { long = k .long; two = k .two; most = k .most; vertices = omega (arith, fit .0); flags = omega (arith, fit .1); indexes = omega (arith, fit .2) }
+  ready c f =
+      let fit = all-fit (2 * n) (length (old .vertices) / 3) (length (old .flags)) (length (old .indexes)) o (sym r ∙ not-false t f) in
+      record {
+        long = c .long;
+        two = c .two;
+        most = c .most;
+        vertices = omega (arith, fit .0);
+        flags = omega (arith, fit .1);
+        indexes = omega (arith, fit .2);
+        origins = omega (arith, fit .3);
+      }
 
   module _ (σ : Settings) where
     -- what is placed

@@ -20,7 +20,9 @@ use Rattle.joins.specs.Join.{tangentTurn, turnOf, rounded, joinOf}
 use Rattle.moves.specs.Moves as Moves
 use Rattle.moves.specs.Reason.{spanReason}
 use Rattle.moves.specs.Made.{spanMove, connectorMove}
-use Rattle.moves.specs.Drawing.{corners, flagsOf, marks, drawnOpen, drawnClosed, finiteVertex, allFinite}
+use Rattle.moves.specs.declared.Origin.{Origin}
+use Rattle.moves.specs.declared.Origin.the-variants.{Span, Connector}
+use Rattle.moves.specs.Drawing.{corners, flagsOf, marks, drawnOpen, drawnClosed, finiteVertex, allFinite, originsOf}
 use Rattle.sheet.specs.Buffers.{Buffers, buffers, flat, shown}
 use Rattle.source.specs.Source.{verticesOf, segmentsOf, around}
 use Rattle.refusals.specs.Limits.{inside, goodVertex, goodOffset, goodEps, numberTests, repeats, neighbourTests, repeatTests, firstFrom}
@@ -47,10 +49,10 @@ unfolding spanReason spanMove connectorMove connectorMoves joinAt walk openLast 
 walked = tt
 
 unfoldable pub laid : Unit {0}
-unfolding Moves.kept Moves.lastPoint corners flagsOf marks drawnOpen drawnClosed finiteVertex allFinite flat shown
+unfolding Moves.kept Moves.lastPoint corners flagsOf marks originsOf drawnOpen drawnClosed finiteVertex allFinite flat shown
 laid = tt
 
--- a job, at ε = 1e-5, and what it gives: 2n, the numbers of its vertices, flags, indexes, closed mark
+-- a job, at ε = 1e-5, and what it gives: 2n, the numbers of its vertices, flags, indexes, origins, closed mark
 pub record Row : Type 0 where
   pub closed : Bool
   pub source : List Float
@@ -59,6 +61,7 @@ pub record Row : Type 0 where
   pub vertices : List Float
   pub flags : List ℕ
   pub indexes : List ℕ
+  pub origins : List Origin
   pub mark : Bool
 
 abbrev pub eps : Float
@@ -81,9 +84,16 @@ bent x y b rest = x ∷ y ∷ b ∷ rest
 abbrev pub at : Float → Float → List Float → List Float
 at x y rest = bent x y zero rest
 
--- what stands in the buffers before: 7 and 9, in 2n places and one more
+-- a span and a connector
+abbrev pub span : ℕ → Origin
+span i = Span (record { 0 = i })
+
+abbrev pub link : ℕ → Origin
+link i = Connector (record { 0 = i })
+
+-- what stands in the buffers before: 7, 9 and the connector of segment 9, in 2n places and one more
 abbrev pub before : Row → Buffers
-before r = buffers (replicate (3 * r .places + 3) (ofBits binary64 0x401c_0000_0000_0000)) (replicate (r .places + 1) 9) (replicate (r .places + 1) 9)
+before r = buffers (replicate (3 * r .places + 3) (ofBits binary64 0x401c_0000_0000_0000)) (replicate (r .places + 1) 9) (replicate (r .places + 1) 9) (replicate (r .places + 1) (link 9))
 
 -- and after: xs, zeros in the places up to n that are left, and the others as before
 abbrev pub filled : {A : Type 0} → A → ℕ → List A → List A → List A
@@ -93,6 +103,7 @@ abbrev pub after : Row → Buffers
 after r =
     let seven : Float = ofBits binary64 0x401c_0000_0000_0000 in
     buffers (filled zero (3 * r .places) (r .vertices) (seven ∷ seven ∷ seven ∷ [])) (filled 0 (r .places) (r .flags) (9 ∷ [])) (filled 0 (r .places) (r .indexes) (9 ∷ []))
+    (filled (span 0) (r .places) (r .origins) (link 9 ∷ []))
 
 abbrev pub worked : Row → Outcome
 worked r = jobOf (r .source) (r .closed) (record { offset = r .offset; eps = eps }) (before r)
@@ -106,20 +117,23 @@ line = at zero zero (at four zero [])
 abbrev pub square : List Float
 square = at zero zero (at four zero (at four four (at zero four [])))
 
-abbrev pub row : Bool → List Float → Float → ℕ → List Float → List ℕ → List ℕ → Bool → Row
-row c s o n vs fs is m = record { closed = c; source = s; offset = o; places = n; vertices = vs; flags = fs; indexes = is; mark = m }
+abbrev pub sides : List Origin
+sides = span 0 ∷ span 1 ∷ span 2 ∷ span 3 ∷ []
+
+abbrev pub row : Bool → List Float → Float → ℕ → List Float → List ℕ → List ℕ → List Origin → Bool → Row
+row c s o n vs fs is os m = record { closed = c; source = s; offset = o; places = n; vertices = vs; flags = fs; indexes = is; origins = os; mark = m }
 
 abbrev pub rows : List Row
 rows =
-    row false line one 2 (at zero one (at four one [])) (0 ∷ []) [] false ∷
-    row false line minusOne 2 (at zero minusOne (at four minusOne [])) (0 ∷ []) [] false ∷
-    row false (at zero zero (at four zero (at four four []))) one 4 (at zero one (at three one (at three four []))) (0 ∷ 0 ∷ []) [] false ∷
-    row false (at zero zero (at four zero (at eight zero []))) one 4 (at zero one (at four one (at eight one []))) (0 ∷ 0 ∷ []) [] false ∷
-    row false (at zero zero (at four zero (at zero zero []))) one 4 (at zero one (bent four one minusOne (at four minusOne (at zero minusOne [])))) (0 ∷ 0 ∷ 0 ∷ []) [] false ∷
-    row false (at zero zero (at four zero (at four one []))) two 4 (at zero two (at four two (at two zero (at two one [])))) (0 ∷ 1 ∷ 0 ∷ []) (1 ∷ []) false ∷
-    row true square one 8 (at one one (at three one (at three three (at one three [])))) (0 ∷ 0 ∷ 0 ∷ 0 ∷ []) [] true ∷
-    row true square three 8 (at three three (at one three (at one one (at three one [])))) (1 ∷ 1 ∷ 1 ∷ 1 ∷ []) (0 ∷ 1 ∷ 2 ∷ 3 ∷ []) true ∷
-    row true square two 8 [] [] [] false ∷
+    row false line one 2 (at zero one (at four one [])) (0 ∷ []) [] (span 0 ∷ []) false ∷
+    row false line minusOne 2 (at zero minusOne (at four minusOne [])) (0 ∷ []) [] (span 0 ∷ []) false ∷
+    row false (at zero zero (at four zero (at four four []))) one 4 (at zero one (at three one (at three four []))) (0 ∷ 0 ∷ []) [] (span 0 ∷ span 1 ∷ []) false ∷
+    row false (at zero zero (at four zero (at eight zero []))) one 4 (at zero one (at four one (at eight one []))) (0 ∷ 0 ∷ []) [] (span 0 ∷ span 1 ∷ []) false ∷
+    row false (at zero zero (at four zero (at zero zero []))) one 4 (at zero one (bent four one minusOne (at four minusOne (at zero minusOne [])))) (0 ∷ 0 ∷ 0 ∷ []) [] (span 0 ∷ link 0 ∷ span 1 ∷ []) false ∷
+    row false (at zero zero (at four zero (at four one []))) two 4 (at zero two (at four two (at two zero (at two one [])))) (0 ∷ 1 ∷ 0 ∷ []) (1 ∷ []) (span 0 ∷ link 0 ∷ span 1 ∷ []) false ∷
+    row true square one 8 (at one one (at three one (at three three (at one three [])))) (0 ∷ 0 ∷ 0 ∷ 0 ∷ []) [] sides true ∷
+    row true square three 8 (at three three (at one three (at one one (at three one [])))) (1 ∷ 1 ∷ 1 ∷ 1 ∷ []) (0 ∷ 1 ∷ 2 ∷ 3 ∷ []) sides true ∷
+    row true square two 8 [] [] [] [] false ∷
     []
 
 pub p-rows : map worked rows ≡ map written rows

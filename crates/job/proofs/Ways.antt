@@ -32,7 +32,7 @@ use Rattle.walk.specs.Walk.{drawingOf, copied}
 use Rattle.job.specs.Verdict.{Verdict, refused, drawn, refuse_at_else_, roomFor, finiteVerdict, distinctVerdict, roomyVerdict, verdictOf}
 use Rattle.job.specs.declared.RawOffsetAnswer.the-variants.{Refused}
 use Rattle.job.specs.Job.{Outcome, ending, afterRefusal, placed, hasRoom, jobOf}
-use Rattle.job.specs.Rows.{Job, outcome, count, places, Whole, Numbers, Roomy, Distinct, Row1, Row2, Row3, Short, vertices, flags, indexes, Row4, Row5, Row6}
+use Rattle.job.specs.Rows.{Job, outcome, count, places, Whole, Numbers, Roomy, Distinct, Row1, Row2, Row3, Short, vertices, flags, indexes, origins, Row4, Row5, Row6}
 use Rattle.job.proofs.Endless.{fails→holds, holds→fails}
 
 -- ---- a search that found a place, and one that did not
@@ -58,11 +58,12 @@ unchanged r room old h = ap (ending (Refused r)) (sym (as-was r room old h))
 
 -- ---- room
 
-pub all-fit : (r a b c : ℕ) → (leb r a and (leb r b and leb r c)) ≡ true → (r ≤ a) × (r ≤ b) × (r ≤ c)
-all-fit r a b c e =
-    let p = both-pass (leb r a) (leb r b and leb r c) .0 e in
-    let q = both-pass (leb r b) (leb r c) .0 (p .1) in
-    (leb-true r a (p .0), leb-true r b (q .0), leb-true r c (q .1))
+pub all-fit : (r a b c d : ℕ) → (leb r a and (leb r b and (leb r c and leb r d))) ≡ true → (r ≤ a) × (r ≤ b) × (r ≤ c) × (r ≤ d)
+all-fit r a b c d e =
+    let p = both-pass (leb r a) (leb r b and (leb r c and leb r d)) .0 e in
+    let q = both-pass (leb r b) (leb r c and leb r d) .0 (p .1) in
+    let s = both-pass (leb r c) (leb r d) .0 (q .1) in
+    (leb-true r a (p .0), leb-true r b (q .0), leb-true r c (s .0), leb-true r d (s .1))
 
 module _ (j : Job) where
   abbrev pub points : List PlineVertex
@@ -81,19 +82,20 @@ module _ (j : Job) where
 
   has-room : Roomy j → fits ≡ true
   unfolding hasRoom
-  has-room r = rw room-is (both-pass _ _ .1 (le-leb _ _ (r .vertices), both-pass _ _ .1 (le-leb _ _ (r .flags), le-leb _ _ (r .indexes))))
+  has-room r = rw room-is (both-pass _ _ .1 (le-leb _ _ (r .vertices), both-pass _ _ .1 (le-leb _ _ (r .flags), both-pass _ _ .1 (le-leb _ _ (r .indexes), le-leb _ _ (r .origins)))))
 
   roomy : Numbers j → 2 ≤ count j → fits ≡ true → Roomy j
   unfolding hasRoom
   roomy n t e =
-      let f = all-fit (places j) (length (j .buffers .vertices) / 3) (length (j .buffers .flags)) (length (j .buffers .indexes)) (rw room-is at e) in
-      record { numbers = n; two = t; vertices = f .0; flags = f .1; indexes = f .2 }
+      let f = all-fit (places j) (length (j .buffers .vertices) / 3) (length (j .buffers .flags)) (length (j .buffers .indexes)) (length (j .buffers .origins)) (rw room-is at e) in
+      record { numbers = n; two = t; vertices = f .0; flags = f .1; indexes = f .2; origins = f .3 }
 
   no-room : Short j → fits ≡ false
   unfolding hasRoom
   no-room (vertices h) = rw room-is (either-fails _ _ .1 (inl (lt-leb _ _ h)))
   no-room (flags h) = rw room-is (either-fails _ _ .1 (inr (either-fails _ _ .1 (inl (lt-leb _ _ h)))))
-  no-room (indexes h) = rw room-is (either-fails _ _ .1 (inr (either-fails _ _ .1 (inr (lt-leb _ _ h)))))
+  no-room (indexes h) = rw room-is (either-fails _ _ .1 (inr (either-fails _ _ .1 (inr (either-fails _ _ .1 (inl (lt-leb _ _ h)))))))
+  no-room (origins h) = rw room-is (either-fails _ _ .1 (inr (either-fails _ _ .1 (inr (either-fails _ _ .1 (inr (lt-leb _ _ h)))))))
 
   short : fits ≡ false → Short j
   unfolding hasRoom
@@ -101,8 +103,12 @@ module _ (j : Job) where
       let n = places j in
       let f = length (j .buffers .flags) in
       let i = length (j .buffers .indexes) in
-      ⊎-elim (λ p. vertices (leb-false _ _ p)) (λ p. ⊎-elim (λ q. flags (leb-false _ _ q)) (λ q. indexes (leb-false _ _ q)) (either-fails (leb n f) (leb n i) .0 p))
-      (either-fails (leb n (length (j .buffers .vertices) / 3)) (leb n f and leb n i) .0 (rw room-is at e))
+      let o = length (j .buffers .origins) in
+      ⊎-elim (λ p. vertices (leb-false _ _ p))
+      (λ p.
+      ⊎-elim (λ q. flags (leb-false _ _ q)) (λ q. ⊎-elim (λ s. indexes (leb-false _ _ s)) (λ s. origins (leb-false _ _ s)) (either-fails (leb n i) (leb n o) .0 q))
+      (either-fails (leb n f) (leb n i and leb n o) .0 p))
+      (either-fails (leb n (length (j .buffers .vertices) / 3)) (leb n f and (leb n i and leb n o)) .0 (rw room-is at e))
 
   -- ---- what the verdict is once the first tests are passed
 

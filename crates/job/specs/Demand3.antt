@@ -97,7 +97,8 @@ pub record Demand3 (j : Job) : Type 0 where
   pub none : length ks ≡ 0 → result (outcome j .answer) ≡ emptyResult
   pub mark : 0 < length ks → result (outcome j .answer) .closed ≡ j .closed
   pub indexes : result (outcome j .answer) .indexes ≡ invalids ks
-  -- it never has one vertex; neighbours are never within tolerance; flags and rising indexes mark exactly the kept moves that are invalid
+  -- it never has one vertex; neighbours are never within tolerance; flags and rising indexes mark exactly the kept moves that are invalid; its origins are those of the kept
+  -- moves, in order
   pub sound : Sound (j .settings .eps) ks drawing
   -- among kept moves each connector's bulge is at most 1 in size and never of the offset's sign
   pub connectors : (m : Move) (i : SourceSegment) → List·Memᴰ m ks → m .origin ≡ Connector i → Against (j .settings .offset) (m .bulge)

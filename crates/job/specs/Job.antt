@@ -1,4 +1,4 @@
--- The whole job in rows (01 §1): the answer, and what the three buffers hold afterwards. A list whose length is no multiple of 3 is refused; of any other the verdict over
+-- The whole job in rows (01 §1): the answer, and what the four buffers hold afterwards. A list whose length is no multiple of 3 is refused; of any other the verdict over
 -- its vertices is placed in the buffers. Definitions only.
 use Prim.Native.Nat.{ℕ, _/_, _%_}
 use mathlib.Core.List.{List}
@@ -50,9 +50,9 @@ abbrev pub placed : ℕ → Verdict → Buffers → Outcome
 placed room (refused r) old = ending (Refused r) (afterRefusal r room old)
 placed room (drawn d) old = ending (Done (resultOf d)) (shown room d old)
 
--- so many vertices, flags and indexes fit; the vertices that fit are a third of the numbers, rounded down
+-- so many vertices, flags, indexes and origins fit; the vertices that fit are a third of the numbers, rounded down
 unfoldable pub hasRoom : Buffers → ℕ → Bool
-hasRoom b room = leb room (length (b .vertices) / 3) and (leb room (length (b .flags)) and leb room (length (b .indexes)))
+hasRoom b room = leb room (length (b .vertices) / 3) and (leb room (length (b .flags)) and (leb room (length (b .indexes)) and leb room (length (b .origins))))
 
 unfoldable pub jobOf : List Float → Bool → Settings → Buffers → Outcome
 jobOf source closed σ old =

@@ -57,6 +57,7 @@ pub record Roomy (j : Job) : Type 0 where
   pub vertices : places j ≤ length (j .buffers .vertices) / 3
   pub flags : places j ≤ length (j .buffers .flags)
   pub indexes : places j ≤ length (j .buffers .indexes)
+  pub origins : places j ≤ length (j .buffers .origins)
 
 -- and the zero offset, and No. 5
 pub record Distinct (j : Job) : Type 0 where
@@ -77,11 +78,12 @@ pub record Row3 (j : Job) (k : ℕ) : Type 0 where
   pub whole : Whole j
   pub bad : NumberRow (verticesOf (j .source)) (j .settings) k
 
--- fewer than 2n vertices, flags or indexes fit
+-- fewer than 2n vertices, flags, indexes or origins fit
 pub data Short (j : Job) : Type 0 where
   vertices : length (j .buffers .vertices) / 3 < places j → Short j
   flags : length (j .buffers .flags) < places j → Short j
   indexes : length (j .buffers .indexes) < places j → Short j
+  origins : length (j .buffers .origins) < places j → Short j
 
 pub record Row4 (j : Job) : Type 0 where
   pub numbers : Numbers j

@@ -4,6 +4,7 @@ ghost use Prim.Native.Nat.{_/_};
 ghost use lib.Dec.{leb};
 ghost use Rattle.floats.specs.Choice.{_and_};
 ghost use Rattle.source.specs.Source.{verticesOf};
+ghost use Rattle.moves.specs.Origins.{originsIn};
 ghost use Rattle.sheet.specs.Buffers.{buffers};
 ghost use Rattle.sheet.specs.InnerSteps.{Ready};
 ghost use Rattle.job.specs.Verdict.{roomFor, distinctVerdict};
@@ -58,7 +59,7 @@ const MOST_VERTICES: usize = 4096;
 // A span and a connector.
 const MOVES_A_SEGMENT: usize = 2;
 
-// Offsets a drawing into the three lent buffers. `source` has three numbers a vertex: x, y, bulge.
+// Offsets a drawing into the four lent buffers. `source` has three numbers a vertex: x, y, bulge.
 // Any numbers may come in; the answer says what became of the job.
 pub fn create_raw_offset(
     source: &[f64],
@@ -67,9 +68,10 @@ pub fn create_raw_offset(
     vertices: &mut [f64],
     flags: &mut [u8],
     indexes: &mut [u32],
+    origins: &mut [u32],
 ) -> RawOffsetAnswer
-    ensures { λ r. ⌜ ending r (buffers (now (vertices .exit)) (now (flags .exit)) (now (indexes .exit)))
-        ≡ jobOf (now (source .entry)) closed settings (buffers (now (vertices .entry)) (now (flags .entry)) (now (indexes .entry))) ⌝ }
+    ensures { λ r. ⌜ ending r (buffers (now (vertices .exit)) (now (flags .exit)) (now (indexes .exit)) (originsIn (now (origins .exit))))
+        ≡ jobOf (now (source .entry)) closed settings (buffers (now (vertices .entry)) (now (flags .entry)) (now (indexes .entry)) (originsIn (now (origins .entry)))) ⌝ }
 {
     if source.len() % 3 != 0 {
         return RawOffsetAnswer::Refused(Refusal::Ragged);
@@ -85,14 +87,23 @@ pub fn create_raw_offset(
     if v < 2 {
         return RawOffsetAnswer::Done(RawOffsetResult::empty());
     }
-    offset_good(source, v, closed, settings, vertices, flags, indexes)
+    offset_good(
+        source,
+        v,
+        closed,
+        settings,
+        vertices,
+        flags,
+        indexes,
+        origins,
+    )
 }
 
 // A vertex takes three numbers; what is left over holds none.
-fn has_room(room: usize, numbers: usize, flags: usize, indexes: usize) -> bool
-    ensures { λ r. ⌜ r ≡ (leb room (numbers / 3) and (leb room flags and leb room indexes)) ⌝ }
+fn has_room(room: usize, numbers: usize, flags: usize, indexes: usize, origins: usize) -> bool
+    ensures { λ r. ⌜ r ≡ (leb room (numbers / 3) and (leb room flags and (leb room indexes and leb room origins))) ⌝ }
 {
-    room <= numbers / 3 && (room <= flags && room <= indexes)
+    room <= numbers / 3 && (room <= flags && (room <= indexes && room <= origins))
 }
 
 // A source of two vertices or more, all of whose numbers are good.
@@ -104,19 +115,43 @@ fn offset_good(
     vertices: &mut [f64],
     flags: &mut [u8],
     indexes: &mut [u32],
+    origins: &mut [u32],
 ) -> RawOffsetAnswer
     requires { ⌜ Counted v (now source) ⌝ }
-    ensures { λ r. ⌜ ending r (buffers (now (vertices .exit)) (now (flags .exit)) (now (indexes .exit)))
-        ≡ fromRoom v (now (source .entry)) closed settings (buffers (now (vertices .entry)) (now (flags .entry)) (now (indexes .entry))) ⌝ }
+    ensures { λ r. ⌜ ending r (buffers (now (vertices .exit)) (now (flags .exit)) (now (indexes .exit)) (originsIn (now (origins .exit))))
+        ≡ fromRoom v (now (source .entry)) closed settings (buffers (now (vertices .entry)) (now (flags .entry)) (now (indexes .entry)) (originsIn (now (origins .entry)))) ⌝ }
 {
     let room = MOVES_A_SEGMENT * source::segment_count(v, closed);
-    if !has_room(room, vertices.len(), flags.len(), indexes.len()) {
+    if !has_room(
+        room,
+        vertices.len(),
+        flags.len(),
+        indexes.len(),
+        origins.len(),
+    ) {
         return RawOffsetAnswer::Refused(Refusal::NoRoom);
     }
     if settings.offset == 0.0 {
-        return RawOffsetAnswer::Done(sheet::copy(source, v, closed, vertices, flags, indexes));
+        return RawOffsetAnswer::Done(sheet::copy(
+            source,
+            v,
+            closed,
+            vertices,
+            flags,
+            indexes,
+            origins,
+        ));
     }
-    offset_nonzero(source, v, closed, settings, vertices, flags, indexes)
+    offset_nonzero(
+        source,
+        v,
+        closed,
+        settings,
+        vertices,
+        flags,
+        indexes,
+        origins,
+    )
 }
 
 // An offset that is not zero, with room for what it draws.
@@ -128,16 +163,26 @@ fn offset_nonzero(
     vertices: &mut [f64],
     flags: &mut [u8],
     indexes: &mut [u32],
+    origins: &mut [u32],
 ) -> RawOffsetAnswer
-    requires { ⌜ Ready v (roomFor closed v) (now source) (buffers (now vertices) (now flags) (now indexes)) ⌝ }
-    ensures { λ r. ⌜ ending r (buffers (now (vertices .exit)) (now (flags .exit)) (now (indexes .exit)))
-        ≡ placed (roomFor closed v) (distinctVerdict closed settings (verticesOf (now (source .entry)))) (buffers (now (vertices .entry)) (now (flags .entry)) (now (indexes .entry))) ⌝ }
+    requires { ⌜ Ready v (roomFor closed v) (now source) (buffers (now vertices) (now flags) (now indexes) (originsIn (now origins))) ⌝ }
+    ensures { λ r. ⌜ ending r (buffers (now (vertices .exit)) (now (flags .exit)) (now (indexes .exit)) (originsIn (now (origins .exit))))
+        ≡ placed (roomFor closed v) (distinctVerdict closed settings (verticesOf (now (source .entry)))) (buffers (now (vertices .entry)) (now (flags .entry)) (now (indexes .entry)) (originsIn (now (origins .entry)))) ⌝ }
 {
     let repeated = refusals::first_repeated(source, v, closed);
     if let Place::At(k) = repeated {
         return RawOffsetAnswer::Refused(Refusal::Repeated(k));
     }
-    let built = sheet::draw(source, v, closed, settings, vertices, flags, indexes);
+    let built = sheet::draw(
+        source,
+        v,
+        closed,
+        settings,
+        vertices,
+        flags,
+        indexes,
+        origins,
+    );
     match built {
         Built::Done(r) => RawOffsetAnswer::Done(r),
         Built::NotFinite => RawOffsetAnswer::Refused(Refusal::NotFinite),

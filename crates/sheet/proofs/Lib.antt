@@ -1,6 +1,7 @@
 pub mod Flat
 pub mod Over
 pub mod Writing
+pub mod Origins
 pub mod Copied
 pub mod Stored
 pub mod Storing

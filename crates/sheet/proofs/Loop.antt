@@ -19,6 +19,7 @@ use Rattle.sweeps.specs.InnerSteps.{Memo}
 use Rattle.sweeps.proofs.Slots.{kept-none}
 use Rattle.moves.specs.declared.Pen.{Pen}
 use Rattle.moves.specs.declared.Stepped.{Stepped}
+use Rattle.moves.specs.Made.{segmentOf, spanMove, connectorMove}
 use Rattle.moves.specs.InnerSteps.{penAfter, stepOf}
 use Rattle.walk.specs.declared.Walk.{Walk}
 use Rattle.walk.specs.declared.Turned.{Turned}
@@ -27,7 +28,7 @@ use Rattle.sheet.specs.declared.Places.{Places}
 use Rattle.sheet.specs.declared.Later.{Later}
 use Rattle.sheet.specs.declared.Sheet.{Sheet}
 use Rattle.sheet.specs.Buffers.{Buffers, buffers}
-use Rattle.sheet.specs.InnerSteps.{noPlaces, Reached, reached, Laid, laid, stores, bulgedAt, reachedLater, bulged, laterOf, Trail, trail, trailLater, advanced, advances, routed, Rooms, Alike, Turns, Ready, Entered}
+use Rattle.sheet.specs.InnerSteps.{noPlaces, Reached, reached, Laid, laid, stores, bulgedAt, reachedLater, bulged, laterOf, Trail, trail, trailLater, advanced, advances, routed, Coded, Rooms, Alike, Turns, Ready, Entered}
 use Rattle.sheet.proofs.Stored.{Counted, stores-counted}
 use Rattle.sheet.proofs.Storing.{step-number}
 use Rattle.sheet.proofs.Bulges.{later, later-placed}
@@ -74,18 +75,19 @@ advance-moved closed σ c w =
 
 -- all turns
 pub record Gone (n : ℕ) (r r′ : Trail) : Type 0 where
+  pub source : r′ .stood .walker .source .0 ≤ r .stood .walker .source .0 + n
   pub number : r′ .stood .pen .number .0 ≤ r .stood .pen .number .0 + 2 * n
   pub strokes : r′ .laid .places .strokes ≤ r .laid .places .strokes + 2 * (n - r .stood .leading)
   pub marks : r′ .laid .places .marks ≤ r .laid .places .marks + 2 * (n - r .stood .leading)
 
 pub advances-gone : (closed : Bool) (σ : Settings) (vs : List PlineVertex) (r : Trail) → Gone (length vs) r (advances closed σ vs r)
 unfolding advances advanced
-advances-gone closed σ [] r = record { number = omega arith; strokes = omega arith; marks = omega arith }
+advances-gone closed σ [] r = record { source = omega arith; number = omega arith; strokes = omega arith; marks = omega arith }
 advances-gone closed σ (c ∷ vs) r =
     let m = advance-moved closed σ c (r .stood) in
     let k = stores-counted (advance closed σ c (r .stood) .strokes) (r .laid) in
     let g = advances-gone closed σ vs (advanced closed σ c r) in
-    record { number = omega arith; strokes = omega arith; marks = omega arith }
+    record { source = omega arith; number = omega arith; strokes = omega arith; marks = omega arith }
 
 -- ---- a turn of the code
 
@@ -160,19 +162,19 @@ module _ {closed : Bool} {σ : Settings} {c : PlineVertex} {w : Walk} {p : Place
         fit = f;
         sources = omega (arith, h .sources);
         outputs = omega (arith, h .outputs);
-        rooms = record { vertices = omega (arith, q .vertices); flags = omega (arith, q .flags); indexes = omega (arith, q .indexes) };
+        rooms = record { vertices = omega (arith, q .vertices); flags = omega (arith, q .flags); indexes = omega (arith, q .indexes); origins = omega (arith, q .origins) };
       }
 
 -- ---- the loop
 
 -- the code writes what is left
 pub wrote-later : (r : Later) (p q : Places) (b : Buffers) {ns : List Float} → ns ≡ bulgedAt (r .due) (r .place) (bulgeOf (r .sweep)) (b .vertices)
-    → reached q ≡ reachedLater r (reached p) → laid q (buffers ns (b .flags) (b .indexes)) ≡ bulged r (laid p b)
+    → reached q ≡ reachedLater r (reached p) → laid q (buffers ns (b .flags) (b .indexes) (b .origins)) ≡ bulged r (laid p b)
 unfolding bulged
 wrote-later r p q b h k = rw (h, k)
 
 alike-trans : {a b c : Buffers} → Alike a b → Alike b c → Alike a c
-alike-trans p q = record { vertices = q .vertices ∙ p .vertices; flags = q .flags ∙ p .flags; indexes = q .indexes ∙ p .indexes }
+alike-trans p q = record { vertices = q .vertices ∙ p .vertices; flags = q .flags ∙ p .flags; indexes = q .indexes ∙ p .indexes; origins = q .origins ∙ p .origins }
 
 -- with nothing left to be written
 later-none : (w : Walk) (p : Places) (r : Later) (b : Buffers) → r .due ≡ false → trailLater w p r b ≡ trail (record { walk = w; places = p }) b
@@ -203,7 +205,7 @@ module _ {closed : Bool} {σ : Settings} {s : List Float} {v n : ℕ} where
   walking-none {w} {p} {r} {b} {k} none h t e = let z : n - 0 ≡ n = omega arith in record {
     within = omega arith;
     below = h;
-    alike = record { vertices = refl; flags = refl; indexes = refl };
+    alike = record { vertices = refl; flags = refl; indexes = refl; origins = refl };
     left = rw (z, later-none w p r b none);
     room = rw z t;
     placed = λ (d : r .due ≡ true). absurd (false≢true (sym none ∙ d));
@@ -245,7 +247,20 @@ module _ {closed : Bool} {σ : Settings} {s : List Float} {v n : ℕ} where
         let q = on .room .rooms in
         let strokes = ap (λ (x : Reached). x .strokes) h in
         let marks = ap (λ (x : Reached). x .marks) h in
-        record { vertices = omega (arith, q .vertices, a .vertices); flags = omega (arith, q .flags, a .flags); indexes = omega (arith, q .indexes, a .indexes) }
+        record {
+          vertices = omega (arith, q .vertices, a .vertices);
+          flags = omega (arith, q .flags, a .flags);
+          indexes = omega (arith, q .indexes, a .indexes);
+          origins = omega (arith, q .origins, a .origins);
+        }
+
+    -- the origins of a turn's moves fit
+    pub coded-turn : (c : PlineVertex) (t : Turned) → i < n → turnShown t ≡ turnTo (stands w) c σ → Coded (t .span .origin) × Coded (t .connector .origin)
+    unfolding turnTo spanMove connectorMove
+    coded-turn c t lt h = (
+      omega (arith, on .room .sources, ap (λ (u : Turn). segmentOf (u .span .origin)) h),
+      omega (arith, on .room .sources, ap (λ (u : Turn). segmentOf (u .connector .origin)) h),
+    )
 
     -- the walk can be joined on
     pub walking-fit : Fit w
@@ -265,7 +280,7 @@ turns-first n m room a {h = h} r e l q =
       fit = e .1;
       sources = omega (arith, r .most);
       outputs = omega (arith, r .most);
-      rooms = record { vertices = omega (arith, r .vertices); flags = omega (arith, r .flags); indexes = omega (arith, r .indexes) };
+      rooms = record { vertices = omega (arith, r .vertices); flags = omega (arith, r .flags); indexes = omega (arith, r .indexes); origins = omega (arith, r .origins) };
     }
 
 -- and for those once around, of a walk that is led in
@@ -274,5 +289,10 @@ turns-around r e = record {
   fit = e .fit;
   sources = omega (arith, r .most, e .source);
   outputs = omega (arith, r .most, e .number);
-  rooms = record { vertices = omega (arith, r .vertices, e .strokes); flags = omega (arith, r .flags, e .strokes); indexes = omega (arith, r .indexes, e .marks) };
+  rooms = record {
+    vertices = omega (arith, r .vertices, e .strokes);
+    flags = omega (arith, r .flags, e .strokes);
+    indexes = omega (arith, r .indexes, e .marks);
+    origins = omega (arith, r .origins, e .strokes);
+  };
 }

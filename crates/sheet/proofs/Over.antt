@@ -6,7 +6,7 @@ use native.Mathlib.Nat.{not-suc-le-zero, le-of-suc-le-suc}
 use native.Mathlib.Numerals.{add-one}
 use native.Mathlib.Omega.{arith}
 use lib.ListN.{length, set, drop, replicate, take, length-append, length-replicate, replicate-append-replicate}
-use lib.Seq.{sets, length-take-le, take-append-le, take-all, drop-append-add, drop-drop}
+use lib.Seq.{sets, length-take-le, take-append-le, take-all, drop-append-le, drop-append-add, drop-at, drop-drop}
 use Rattle.sheet.specs.Buffers.{padded}
 use Rattle.sheet.specs.InnerSteps.{over, cleared}
 
@@ -44,6 +44,18 @@ module _ {ℓ} {A : Type ℓ} where
 
     pub cleared-whole : (n : ℕ) (xs ys : List A) → length xs ≤ n → cleared z 0 (n - 0) (over xs ys) ≡ padded z n [] ys
     cleared-whole n xs ys k = cleared-over 0 n xs ys (omega arith) k
+
+    -- what is written over unused places
+    pub over-padded : (n : ℕ) (xs ys : List A) → length xs ≤ n → over xs (padded z n [] ys) ≡ padded z n xs ys
+    over-padded n xs ys h =
+        let l = length-replicate (n - 0) z in
+        let e : length xs + (n - length xs) ≡ n - 0 = omega arith in
+        let r : drop (length xs) (replicate (n - 0) z) ≡ replicate (n - length xs) z =
+        ap (λ (i : ℕ). drop (length xs) (replicate i z)) (sym e)
+        ∙ ap (drop (length xs)) (sym (replicate-append-replicate (length xs) (n - length xs) z))
+        ∙ drop-at (replicate (length xs) z) (replicate (n - length xs) z) (length xs) (length-replicate (length xs) z) in
+        ap (λ (t : List A). xs ++ t) (drop-append-le (length xs) (replicate (n - 0) z) (drop n ys) (omega arith) ∙ ap (λ (t : List A). t ++ drop n ys) r)
+        ∙ sym (append-assoc xs (replicate (n - length xs) z) (drop n ys))
 
     -- what is z already counts as unused
     pub padded-same : (n k : ℕ) (ys : List A) → k ≤ n → padded z n (replicate k z) ys ≡ padded z n [] ys

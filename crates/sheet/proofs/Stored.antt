@@ -16,7 +16,7 @@ use Rattle.segments.specs.Vertex.{vertexAt}
 use Rattle.moves.specs.declared.Move.{Move}
 use Rattle.moves.specs.declared.Stroke.{Stroke}
 use Rattle.moves.specs.Reason.{isInvalid, invalidMove}
-use Rattle.moves.specs.Drawing.{Drawing, corners, flagsOf, marks, mark, bit, finiteVertex, allFinite}
+use Rattle.moves.specs.Drawing.{Drawing, corners, flagsOf, marks, mark, bit, originsOf, finiteVertex, allFinite}
 use Rattle.moves.specs.InnerSteps.{strokes, sure}
 use Rattle.moves.proofs.Laws.{bit-small}
 use Rattle.moves.proofs.Shapes.{path, path-fits}
@@ -55,6 +55,7 @@ row n p ks l = record {
     vertices = sets (l .buffers .vertices) (3 * l .places .strokes) (flat (corners p ks));
     flags = sets (l .buffers .flags) (l .places .strokes) (flagsOf ks);
     indexes = sets (l .buffers .indexes) (l .places .marks) (marks n ks);
+    origins = sets (l .buffers .origins) (l .places .strokes) (originsOf ks);
   };
 }
 
@@ -76,7 +77,7 @@ index-count true j k ks = omega arith
 index-count false j k ks = omega arith
 
 stores-row : (n : ℕ) (p : Vector2) (ks : List Move) (l : Laid) → stores (strokes n p ks) l ≡ row n p ks l
-unfolding stores stored strokes corners flagsOf marks flat allFinite _and_
+unfolding stores stored strokes corners flagsOf marks originsOf flat allFinite _and_
 stores-row n p [] l = simp add-zero
 stores-row n p (m ∷ ks) l =
     let i = invalidMove m in
@@ -92,7 +93,7 @@ stores-row n p (m ∷ ks) l =
 
 -- the lists of a drawing, written over the buffers
 abbrev pub written : Drawing → Buffers → Buffers
-written d old = buffers (over (flat (d .vertices)) (old .vertices)) (over (d .flags) (old .flags)) (over (d .indexes) (old .indexes))
+written d old = buffers (over (flat (d .vertices)) (old .vertices)) (over (d .flags) (old .flags)) (over (d .indexes) (old .indexes)) (over (d .origins) (old .origins))
 
 -- with the places after it
 abbrev pub drawnOver : Vector2 → List Move → Buffers → Laid
@@ -112,11 +113,13 @@ unfolding isNan ofBits
 none-sure = refl
 
 pub stores-drawn : (p : Vector2) (ks : List Move) (old : Buffers) → 3 * length ks ≤ length (old .vertices) → length ks ≤ length (old .flags) → length ks ≤ length (old .indexes)
+    → length ks ≤ length (old .origins)
     → stores (strokes 0 p ks) (laid noPlaces old) ≡ drawnOver p ks old
-stores-drawn p ks old v f i =
+stores-drawn p ks old v f i o =
     let w = path-fits (length ks) p ks true (omega arith) in
     let n = length-flat (corners p ks) in
     let a = over-all (flat (corners p ks)) (old .vertices) (omega (arith, w .vertices)) in
     let b = over-all (flagsOf ks) (old .flags) (omega (arith, w .flags)) in
     let c = over-all (marks 0 ks) (old .indexes) (omega (arith, w .indexes)) in
-    stores-row 0 p ks (laid noPlaces old) ∙ simp (zero-add, none-sure, and-true, a, b, c)
+    let d = over-all (originsOf ks) (old .origins) (omega (arith, w .flags, w .origins)) in
+    stores-row 0 p ks (laid noPlaces old) ∙ simp (zero-add, none-sure, and-true, a, b, c, d)

@@ -11,15 +11,19 @@ use lib.Ieee.{Float}
 use Rattle.floats.specs.Choice.{when_give_else_, _and_}
 use Rattle.floats.proofs.Choice.{both-pass}
 use Rattle.vectors.specs.Plane.{near}
+use Rattle.vectors.specs.declared.Vector2.{Vector2}
+use Rattle.segments.specs.declared.RawOffsetSeg.{RawOffsetSeg}
+use Rattle.joins.specs.declared.JoinBoundary.{JoinBoundary}
 use Rattle.moves.specs.declared.Move.{Move}
 use Rattle.moves.specs.declared.Pen.{Pen}
 use Rattle.moves.specs.declared.Stroke.{Stroke}
 use Rattle.moves.specs.declared.Stepped.{Stepped}
 use Rattle.moves.specs.Reason.{isInvalid}
+use Rattle.moves.specs.Made.{spanMove, connectorMove}
 use Rattle.moves.specs.Drawing.{bit}
 use Rattle.moves.specs.InnerSteps.{penAfter, stepOf}
 use Rattle.walk.specs.InnerSteps.{drawnBy}
-use Rattle.sheet.specs.InnerSteps.{Laid, stored, stores, Rooms}
+use Rattle.sheet.specs.InnerSteps.{Laid, stored, stores, Coded, Rooms}
 use Rattle.sheet.proofs.Stored.{stores-append}
 
 -- a step counts one number at most
@@ -34,6 +38,20 @@ step-number pen m e = by (near (pen .last) (m .end) e)
 pub step-small : (pen : Pen) (m : Move) (e : Float) (n : ℕ) {st : Stepped} → st ≡ stepOf pen m e → pen .number .0 + 2 < n → st .pen .number .0 + 1 < n
 step-small pen m e n h k = rw h (omega (arith, step-number pen m e))
 
+-- a stroke has its move's origin
+pub step-coded : (pen : Pen) (m : Move) (e : Float) {st : Stepped} → st ≡ stepOf pen m e → Coded (m .origin) → Coded (st .stroke .origin)
+unfolding stepOf
+step-coded pen m e h k = rw h k
+
+-- a span and a connector have their segment's
+pub span-coded : (i : ℕ) (g : RawOffsetSeg) (t : Float) (p : Vector2) (t′ : Float) {m : Move} → m ≡ spanMove i g t p t′ → i < 0x8000_0000 → Coded (m .origin)
+unfolding spanMove
+span-coded i g t p t′ h k = rw h k
+
+pub connector-coded : (i : ℕ) (j : JoinBoundary) {m : Move} → m ≡ connectorMove i j → i < 0x8000_0000 → Coded (m .origin)
+unfolding connectorMove
+connector-coded i j h k = rw h k
+
 -- ---- room
 
 -- where a step is drawn, the walk is led in, and has its room
@@ -41,7 +59,7 @@ pub drawn-room : (n : ℕ) (k : Bool) {d : Bool} {l : Laid} → d ≡ (eqb n 0 a
 drawn-room n k h room t = room (eqb-true n 0 (both-pass (eqb n 0) k .0 (sym h ∙ t) .0))
 
 pub room-less : {l : Laid} → Rooms 2 l → Rooms 1 l
-room-less w = record { vertices = omega arith; flags = omega arith; indexes = omega arith }
+room-less w = record { vertices = omega arith; flags = omega arith; indexes = omega arith; origins = omega arith }
 
 marks-room : (t : Bool) (is : List ℕ) (j k n : ℕ) → j + (n + 1) ≤ length is → j + bit t + n ≤ length (when t give set is j k else is)
 unfolding when_give_else_
@@ -55,6 +73,7 @@ stored-room n s l w = record {
   vertices = simp length-set (omega arith);
   flags = simp length-set (omega arith);
   indexes = marks-room (isInvalid (s .reason)) (l .buffers .indexes) (l .places .marks) (s .number .0) n (w .indexes);
+  origins = simp length-set (omega arith);
 }
 
 -- a step's stroke, where it is drawn

@@ -22,7 +22,7 @@ use Rattle.moves.specs.declared.Move.{Move}
 use Rattle.moves.specs.declared.Stroke.{Stroke}
 use Rattle.moves.specs.declared.Stepped.{Stepped}
 use Rattle.moves.specs.Made.{connectorMove}
-use Rattle.moves.specs.Drawing.{Drawing, nothing, moveEnd, kept, lastPoint, corners, flagsOf, marks, drawnOpen, drawnClosed, finiteVertex, allFinite, emptyResult, resultOf}
+use Rattle.moves.specs.Drawing.{Drawing, nothing, moveEnd, kept, lastPoint, corners, flagsOf, marks, originsOf, drawnOpen, drawnClosed, finiteVertex, allFinite, emptyResult, resultOf}
 use Rattle.moves.specs.InnerSteps.{stepOf, strokes, Fits}
 use Rattle.moves.proofs.Kept.{length-kept}
 use Rattle.moves.proofs.Lists.{length-corners, length-flagsOf}
@@ -36,8 +36,8 @@ use Rattle.walk.proofs.Lengths.{open-length, closed-most}
 use Rattle.sheet.specs.declared.Places.{Places}
 use Rattle.sheet.specs.declared.Sheet.{Sheet}
 use Rattle.sheet.specs.declared.Built.the-variants.{Done}
-use Rattle.sheet.specs.Buffers.{Buffers, flat, shown}
-use Rattle.sheet.specs.InnerSteps.{noPlaces, Reached, Laid, laid, putAt, stored, stores, Trail, trail, advanced, advances, routed, Alike, Ready, over, wiped, Within, Lasts, finished, finishes, finishesOpen, lasts, closes, Entered, builtOf}
+use Rattle.sheet.specs.Buffers.{Buffers, flat, noOrigin, shown}
+use Rattle.sheet.specs.InnerSteps.{noPlaces, Reached, Laid, laid, putAt, stored, stores, Trail, trail, advanced, advances, routed, Alike, Ready, over, cleared, wiped, Within, Lasts, finished, finishes, finishesOpen, lasts, closes, Entered, builtOf}
 use Rattle.sheet.proofs.Over.{over-sets, cleared-after, cleared-whole}
 use Rattle.sheet.proofs.Flat.{flat-snoc, length-flat}
 use Rattle.sheet.proofs.Stored.{stores-append, stores-counted, written, drawnOver, stores-drawn}
@@ -51,13 +51,17 @@ module _ (room : ℕ) (d : Drawing) (old : Buffers) (w : Fits room d) where
   numbers-fit : length (flat (d .vertices)) ≤ 3 * room
   numbers-fit = let l = length-flat (d .vertices) in omega (arith, w .vertices)
 
+  origins-fit : length (d .origins) ≤ room
+  origins-fit = omega (arith, w .flags, w .origins)
+
   written-after : wiped room (length (d .vertices)) (length (d .flags)) (length (d .indexes)) (written d old) ≡ shown room d old
   unfolding wiped shown
   written-after =
       let v = cleared-after zero (3 * room) (flat (d .vertices)) (old .vertices) numbers-fit in
       let f = cleared-after 0 room (d .flags) (old .flags) (w .flags) in
       let i = cleared-after 0 room (d .indexes) (old .indexes) (w .indexes) in
-      rw (← length-flat (d .vertices), v, f, i)
+      let o = cleared-after noOrigin room (d .origins) (old .origins) origins-fit in
+      rw (← length-flat (d .vertices), v, f, i, ap (λ (n : ℕ). cleared noOrigin n (room - n) (over (d .origins) (old .origins))) (sym (w .origins)) ∙ o)
 
   written-whole : wiped room 0 0 0 (written d old) ≡ shown room nothing old
   unfolding wiped shown flat
@@ -65,7 +69,8 @@ module _ (room : ℕ) (d : Drawing) (old : Buffers) (w : Fits room d) where
       let v = cleared-whole zero (3 * room) (flat (d .vertices)) (old .vertices) numbers-fit in
       let f = cleared-whole 0 room (d .flags) (old .flags) (w .flags) in
       let i = cleared-whole 0 room (d .indexes) (old .indexes) (w .indexes) in
-      rw (v, f, i)
+      let o = cleared-whole noOrigin room (d .origins) (old .origins) origins-fit in
+      rw (v, f, i, o)
 
   finish-built :
       let places : Reached = record { strokes = length (d .flags); marks = length (d .indexes); finite = allFinite (d .vertices) } in
@@ -86,7 +91,7 @@ finite-snoc (u ∷ vs) v = ap (λ (t : Bool). finiteVertex u and t) (finite-snoc
 closed-finish : (room : ℕ) (p : Vector2) (ks : List Move) (old : Buffers) → (length ks ≡ 1 → ⊥) → length ks ≤ room
     → finishes room (record { vertices = length ks; indexes = length (marks 0 ks); closed = not (eqb (length ks) 0) }) (drawnOver p ks old) ≡ builtOf room (drawnClosed p ks) old
 unfolding drawnClosed
-closed-finish room p [] old o l = unfold corners flagsOf marks flat in finish-built room nothing old (nothing-fits room)
+closed-finish room p [] old o l = unfold corners flagsOf marks originsOf flat in finish-built room nothing old (nothing-fits room)
 closed-finish room p (k ∷ []) old o l = absurd (o refl)
 closed-finish room p (k ∷ m ∷ ks) old o l =
     let all = k ∷ m ∷ ks in
@@ -104,7 +109,7 @@ put-last p ks old r =
 open-finish : (room : ℕ) (p : Vector2) (ks : List Move) (old : Buffers) → length ks + 1 ≤ room → 3 * room ≤ length (old .vertices)
     → finishesOpen room (record { last = lastPoint p ks; number = record { 0 = length ks } }) (drawnOver p ks old) ≡ builtOf room (drawnOpen p ks) old
 unfolding finishesOpen when_give_else_ drawnOpen
-open-finish room p [] old l v = unfold corners flagsOf marks flat in built-nothing room old
+open-finish room p [] old l v = unfold corners flagsOf marks originsOf flat in built-nothing room old
 open-finish room p (k ∷ ks) old l v =
     let all = k ∷ ks in
     let e : eqb (length all) 0 ≡ false = eqb·suc-zero (length ks) in
@@ -153,12 +158,13 @@ walked closed σ vs a n old = advances closed σ vs (record { stood = standingAt
 
 -- ---- after turns from the first places on there is room for the last moves
 pub lasts-after : (closed : Bool) (σ : Settings) (s : List Float) (v n k room : ℕ) (h h′ : Sheet) {b b′ : Buffers} → Ready v room s b → Alike b b′
-    → (h .places .strokes ≡ 0) × (h .places .marks ≡ 0) × (h .walk .pen .number .0 ≡ 0) → 2 * (n - h .walk .leading) + 2 ≤ room → n ≤ 4096 → room ≤ 2 * v
+    → (h .places .strokes ≡ 0) × (h .places .marks ≡ 0) × (h .walk .pen .number .0 ≡ 0) × (h .walk .source .0 ≡ 0) → 2 * (n - h .walk .leading) + 2 ≤ room → n ≤ 4096 → room ≤ 2 * v
     → trail h′ b′ ≡ advances closed σ (routed v n k s) (trail h b) → Lasts room h′ b′
 lasts-after closed σ s v n k room h h′ {b} ready alike none few most small e =
     let l = length-routed v n k s in
     let g = rw (← e) at (advances-gone closed σ (routed v n k s) (trail h b)) in
     record {
+      sources = omega (arith, g .source, none .3);
       outputs = omega (arith, g .number, none .2);
       small = omega (arith, ready .most);
       strokes = omega (arith, g .strokes, none .0);
@@ -166,6 +172,7 @@ lasts-after closed σ s v n k room h h′ {b} ready alike none few most small e 
       vertices = omega (arith, ready .vertices, alike .vertices);
       flags = omega (arith, ready .flags, alike .flags);
       indexes = omega (arith, ready .indexes, alike .indexes);
+      origins = omega (arith, ready .origins, alike .origins);
     }
 
 -- of an open walk
@@ -174,8 +181,12 @@ pub first-lasts : (σ : Settings) (s : List Float) (v k : ℕ) (a : PlineVertex)
 unfolding standingAt
 first-lasts σ s v k a h h′ ready alike first e =
     let leading : h .walk .leading ≡ 1 = ap (λ (x : Stood). x .leading) (first .0) in
-    lasts-after false σ s v (v - 1) k (2 * (v - 1)) h h′ ready alike
-    (ap (λ (x : Places). x .strokes) (first .2), ap (λ (x : Places). x .marks) (first .2), ap (λ (x : Stood). x .pen .number .0) (first .0))
+    lasts-after false σ s v (v - 1) k (2 * (v - 1)) h h′ ready alike (
+      ap (λ (x : Places). x .strokes) (first .2),
+      ap (λ (x : Places). x .marks) (first .2),
+      ap (λ (x : Stood). x .pen .number .0) (first .0),
+      ap (λ (x : Stood). x .walker .source .0) (first .0),
+    )
     (omega (arith, ready .two)) (omega (arith, ready .most)) (omega arith) e
 
 pub ready-alike : {v room : ℕ} {s : List Float} {b b′ : Buffers} → Ready v room s b → Alike b b′ → Ready v room s b′
@@ -186,6 +197,7 @@ ready-alike r a = record {
   vertices = omega (arith, r .vertices, a .vertices);
   flags = omega (arith, r .flags, a .flags);
   indexes = omega (arith, r .indexes, a .indexes);
+  origins = omega (arith, r .origins, a .origins);
 }
 
 module _ (σ : Settings) (s : List Float) (v : ℕ) (old : Buffers) (sheet : Sheet) {b : Buffers} where
@@ -224,7 +236,7 @@ module _ (σ : Settings) (s : List Float) (v : ℕ) (old : Buffers) (sheet : She
     closed-laid =
         let n = closed-few in
         sym (stores-append (drawnOn true σ around first) _ (laid noPlaces old)) ∙ rw (closed-drawn σ (vertexOf s 0) (vertexOf s 1) (rest s))
-        (stores-drawn (start true σ s) (moves true σ s) old (omega (arith, ready .vertices)) (omega (arith, ready .flags)) (omega (arith, ready .indexes)))
+        (stores-drawn (start true σ s) (moves true σ s) old (omega (arith, ready .vertices)) (omega (arith, ready .flags)) (omega (arith, ready .indexes)) (omega (arith, ready .origins)))
 
     closed-drawing : drawnClosed (start true σ s) (moves true σ s) ≡ drawingOf true σ (verticesOf s)
     unfolding drawingOf loneCollapsed walkDrawing when_give_else_
@@ -267,7 +279,7 @@ module _ (σ : Settings) (s : List Float) (v : ℕ) (old : Buffers) (sheet : She
     open-walked =
         let n = open-few in
         let d = rw open-led at (open-drawn σ (vertexOf s 0) (vertexOf s 1) (rest s)) in
-        let all = stores-drawn (start false σ s) (moves false σ s) old (omega (arith, ready .vertices)) (omega (arith, ready .flags)) (omega (arith, ready .indexes)) in
+        let all = stores-drawn (start false σ s) (moves false σ s) old (omega (arith, ready .vertices)) (omega (arith, ready .flags)) (omega (arith, ready .indexes)) (omega (arith, ready .origins)) in
         rw (← stores-append (drawnOn false σ (vertexOf s 1 ∷ rest s) (standingAt (vertexOf s 0) 1)), d .0, d .1, all) (open-finish (2 * (v - 1)) _ _ old n (ready .vertices))
 
     open-ends : lasts (2 * (v - 1)) (eqb (length (rest s) + 2) 2) (σ .eps) (walked false σ (vertexOf s 1 ∷ rest s) (vertexOf s 0) 1 old)
@@ -308,6 +320,7 @@ last-within k room h p ss {b} w alike e n m =
       vertices = omega (arith, w .vertices, alike .vertices);
       flags = omega (arith, w .flags, alike .flags);
       indexes = omega (arith, w .indexes, alike .indexes);
+      origins = omega (arith, w .origins, alike .origins);
     }
 
 -- the closing moves as the code stores them: `first` and `second` leave p and then q

@@ -21,10 +21,11 @@ use Rattle.source.specs.InnerSteps.{vertexOf, nextOf}
 use Rattle.joins.specs.declared.JoinBoundary.{JoinBoundary}
 use Rattle.moves.specs.declared.Pen.{Pen}
 use Rattle.moves.specs.declared.Stroke.{Stroke}
+use Rattle.moves.specs.declared.Origin.{Origin}
 use Rattle.moves.specs.declared.RawOffsetResult.{RawOffsetResult}
 use Rattle.moves.specs.Reason.{isInvalid}
 use Rattle.moves.specs.Drawing.{Drawing, bit, nothing, finiteVertex, allFinite, emptyResult, resultOf}
-use Rattle.moves.specs.Made.{connectorMove}
+use Rattle.moves.specs.Made.{segmentOf, connectorMove}
 use Rattle.moves.specs.InnerSteps.{stepOf, sure}
 use Rattle.walk.specs.declared.Walk.{Walk}
 use Rattle.walk.specs.declared.Turned.{Turned}
@@ -34,7 +35,7 @@ use Rattle.sheet.specs.declared.Later.{Later}
 use Rattle.sheet.specs.declared.Sheet.{Sheet}
 use Rattle.sheet.specs.declared.Built.{Built}
 use Rattle.sheet.specs.declared.Built.the-variants.{Done, NotFinite}
-use Rattle.sheet.specs.Buffers.{Buffers, buffers, shown}
+use Rattle.sheet.specs.Buffers.{Buffers, buffers, noOrigin, shown}
 
 -- ---- strokes
 
@@ -63,7 +64,7 @@ laid p b = record { places = reached p; buffers = b }
 abbrev pub putAt : List Float → ℕ → PlineVertex → List Float
 putAt ns k v = sets ns (3 * k) (v .x ∷ v .y ∷ v .bulge ∷ [])
 
--- a stroke at its places: its vertex and its flag, and its number where it is invalid
+-- a stroke at its places: its vertex, its flag and its origin, and its number where it is invalid
 unfoldable pub stored : Stroke → Laid → Laid
 stored s l = record {
   places = record {
@@ -75,6 +76,7 @@ stored s l = record {
     vertices = putAt (l .buffers .vertices) (l .places .strokes) (s .vertex);
     flags = set (l .buffers .flags) (l .places .strokes) (bit (isInvalid (s .reason)));
     indexes = when isInvalid (s .reason) give set (l .buffers .indexes) (l .places .marks) (s .number .0) else l .buffers .indexes;
+    origins = set (l .buffers .origins) (l .places .strokes) (s .origin);
   };
 }
 
@@ -100,7 +102,7 @@ reachedLater r p = record { strokes = p .strokes; marks = p .marks; finite = whe
 unfoldable pub bulged : Later → Laid → Laid
 bulged r l = record {
   places = reachedLater r (l .places);
-  buffers = buffers (bulgedAt (r .due) (r .place) (bulgeOf (r .sweep)) (l .buffers .vertices)) (l .buffers .flags) (l .buffers .indexes);
+  buffers = buffers (bulgedAt (r .due) (r .place) (bulgeOf (r .sweep)) (l .buffers .vertices)) (l .buffers .flags) (l .buffers .indexes) (l .buffers .origins);
 }
 
 -- what a turn leaves to be written: the bulge of its span, if that is an arc and is drawn, at place k
@@ -138,22 +140,28 @@ routed v (suc n) k s = vertexOf s k ∷ routed v n (nextOf v k) s
 
 -- ---- room
 
+-- the number of an origin fits its place
+abbrev pub Coded : Origin → Type 0
+Coded o = segmentOf o < 0x8000_0000
+
 -- there is room for t strokes more
 pub record Rooms (t : ℕ) (l : Laid) : Type 0 where
   pub vertices : 3 * (l .places .strokes + t) ≤ length (l .buffers .vertices)
   pub flags : l .places .strokes + t ≤ length (l .buffers .flags)
   pub indexes : l .places .marks + t ≤ length (l .buffers .indexes)
+  pub origins : l .places .strokes + t ≤ length (l .buffers .origins)
 
 -- buffers of the same lengths
 pub record Alike (b b′ : Buffers) : Type 0 where
   pub vertices : length (b′ .vertices) ≡ length (b .vertices)
   pub flags : length (b′ .flags) ≡ length (b .flags)
   pub indexes : length (b′ .indexes) ≡ length (b .indexes)
+  pub origins : length (b′ .origins) ≡ length (b .origins)
 
 -- what t turns need: a walk that can be joined on, numbers that fit, and room for two strokes a turn, but for those that lead in
 pub record Turns (t : ℕ) (w : Walk) (p : Places) (b : Buffers) : Type 0 where
   pub fit : Fit w
-  pub sources : w .source .0 + t < 0x1_0000_0000
+  pub sources : w .source .0 + t < 0x8000_0000
   pub outputs : w .pen .number .0 + 2 * t < 0x1_0000_0000
   pub rooms : Rooms (2 * (t - w .leading)) (laid p b)
 
@@ -171,6 +179,7 @@ pub record Ready (v room : ℕ) (s : List Float) (b : Buffers) : Type 0 where
   pub vertices : 3 * room ≤ length (b .vertices)
   pub flags : room ≤ length (b .flags)
   pub indexes : room ≤ length (b .indexes)
+  pub origins : room ≤ length (b .origins)
 
 -- ---- the end of a walk
 
@@ -182,12 +191,13 @@ over xs old = xs ++ drop (length xs) old
 abbrev pub cleared {ℓ} : {A : Type ℓ} → A → ℕ → ℕ → List A → List A
 cleared z from count l = take from l ++ replicate count z ++ drop (from + count) l
 
--- zeros from vertex v, flag f and index i on, up to `room` places
+-- zeros from vertex v, flag and origin f, and index i on, up to `room` places
 unfoldable pub wiped : ℕ → ℕ → ℕ → ℕ → Buffers → Buffers
 wiped room v f i old = record {
   vertices = cleared B.zero (3 * v) (3 * room - 3 * v) (old .vertices);
   flags = cleared 0 f (room - f) (old .flags);
   indexes = cleared 0 i (room - i) (old .indexes);
+  origins = cleared noOrigin f (room - f) (old .origins);
 }
 
 -- there is room for `room` places, and the counts are within it
@@ -199,6 +209,7 @@ pub record Within (room v f i : ℕ) (b : Buffers) : Type 0 where
   pub vertices : 3 * room ≤ length (b .vertices)
   pub flags : room ≤ length (b .flags)
   pub indexes : room ≤ length (b .indexes)
+  pub origins : room ≤ length (b .origins)
 
 -- what was built, and the buffers with it
 pub record Finished : Type 0 where
@@ -222,7 +233,7 @@ finishesOpen room pen l =
     finishes room (record { vertices = l .places .strokes + 1; indexes = l .places .marks; closed = false })
     (record {
       places = record { strokes = l .places .strokes; marks = l .places .marks; finite = finiteVertex v and l .places .finite };
-      buffers = buffers (putAt (l .buffers .vertices) (l .places .strokes) v) (l .buffers .flags) (l .buffers .indexes);
+      buffers = buffers (putAt (l .buffers .vertices) (l .places .strokes) v) (l .buffers .flags) (l .buffers .indexes) (l .buffers .origins);
     })
 
 -- the last span of an open walk: nothing is drawn of a collapsed arc that is alone
@@ -241,6 +252,7 @@ closes room k ε r =
 
 -- what the last moves need: room for two
 pub record Lasts (room : ℕ) (h : Sheet) (b : Buffers) : Type 0 where
+  pub sources : h .walk .source .0 < 0x8000_0000
   pub outputs : h .walk .pen .number .0 + 2 < 0x1_0000_0000
   pub small : room ≤ 12288
   pub strokes : h .places .strokes + 2 ≤ room
@@ -248,6 +260,7 @@ pub record Lasts (room : ℕ) (h : Sheet) (b : Buffers) : Type 0 where
   pub vertices : 3 * room ≤ length (b .vertices)
   pub flags : room ≤ length (b .flags)
   pub indexes : room ≤ length (b .indexes)
+  pub origins : room ≤ length (b .origins)
 
 -- a walk that is led in and has drawn nothing
 pub record Entered (h : Sheet) : Type 0 where

@@ -1,4 +1,5 @@
-// The lent buffers, in rows: three numbers a vertex in the source and in the output, flags and indexes.
+// The lent buffers, in rows: three numbers a vertex in the source and in the output, flags, indexes and
+// origins.
 // This layer alone knows them; the walk that it stores is by value. A vertex is stored when it is left,
 // with the bulge of the move that leaves it, so that nothing is stored twice.
 ghost use mathlib.Core.Path.{_≡_};
@@ -13,20 +14,23 @@ ghost use Rattle.segments.specs.InnerSteps.{chordOf};
 ghost use Rattle.source.specs.Source.{verticesOf, segmentsOf};
 ghost use Rattle.source.specs.InnerSteps.{vertexOf, nextOf};
 ghost use Rattle.sweeps.specs.InnerSteps.{Memo};
+ghost use Rattle.moves.specs.Origins.{originsIn};
 ghost use Rattle.moves.specs.Drawing.{bit, resultOf};
 ghost use Rattle.moves.specs.InnerSteps.{sure};
-ghost use Rattle.walk.specs.Walk.{drawingOf, copied};
+ghost use Rattle.walk.specs.Walk.{drawingOf, spansFrom, copied};
 ghost use Rattle.walk.specs.InnerSteps.{stood, standingAt, Fit, turnStrokes, penTurned};
-ghost use Rattle.sheet.specs.Buffers.{buffers, shown};
-ghost use Rattle.sheet.specs.InnerSteps.{noPlaces, reached, laid, putAt, stored, stores, bulgedAt, Begun, reachedLater, laterOf, trail, advances, routed, Rooms, Starts, Ready, cleared, wiped, over, Within, finished, finishes, finishesOpen, Lasts, lasts, closes, Entered, builtOf};
+ghost use Rattle.sheet.specs.Buffers.{buffers, noOrigin, shown};
+ghost use Rattle.sheet.specs.InnerSteps.{noPlaces, reached, laid, putAt, stored, stores, bulgedAt, Begun, reachedLater, laterOf, trail, advances, routed, Coded, Rooms, Starts, Ready, cleared, wiped, over, Within, finished, finishes, finishesOpen, Lasts, lasts, closes, Entered, builtOf};
 use joins::JoinBoundary;
 use moves::Move;
+use moves::Origin;
 use moves::Pen;
 use moves::RawOffsetResult;
 use moves::Stroke;
 use segments::OutputSegment;
 use segments::PlineVertex;
 use segments::Settings;
+use segments::SourceSegment;
 use walk::Turned;
 use walk::Walk;
 
@@ -88,18 +92,27 @@ fn put_flag(
     flags[k] = 0;
 }
 
+// The origin of segment k.
+fn put_origin(origins: &mut [u32], k: usize, origin: Origin)
+    requires { ⌜ (k < length (now origins)) × Coded origin ⌝ }
+    ensures { λ _. ⌜ originsIn (now (origins .exit)) ≡ set (originsIn (now (origins .entry))) k origin ⌝ }
+{
+    origins[k] = origin.code();
+}
+
 // Stores a stroke, if it is drawn.
 fn store(
     vertices: &mut [f64],
     flags: &mut [u8],
     indexes: &mut [u32],
+    origins: &mut [u32],
     places: Places,
     drawn: bool,
     stroke: Stroke,
 ) -> Places
-    requires { ⌜ (drawn ≡ true → Rooms 1 (laid places (buffers (now vertices) (now flags) (now indexes)))) ⌝ }
-    ensures { λ r. ⌜ laid r (buffers (now (vertices .exit)) (now (flags .exit)) (now (indexes .exit)))
-        ≡ when drawn give stored stroke (laid places (buffers (now (vertices .entry)) (now (flags .entry)) (now (indexes .entry)))) else laid places (buffers (now (vertices .entry)) (now (flags .entry)) (now (indexes .entry))) ⌝ }
+    requires { ⌜ (drawn ≡ true → Rooms 1 (laid places (buffers (now vertices) (now flags) (now indexes) (originsIn (now origins))))) × Coded (stroke .origin) ⌝ }
+    ensures { λ r. ⌜ laid r (buffers (now (vertices .exit)) (now (flags .exit)) (now (indexes .exit)) (originsIn (now (origins .exit))))
+        ≡ when drawn give stored stroke (laid places (buffers (now (vertices .entry)) (now (flags .entry)) (now (indexes .entry)) (originsIn (now (origins .entry))))) else laid places (buffers (now (vertices .entry)) (now (flags .entry)) (now (indexes .entry)) (originsIn (now (origins .entry)))) ⌝ }
 {
     if !drawn {
         return places;
@@ -109,8 +122,10 @@ fn store(
     let vertex = stroke.vertex;
     let reason = stroke.reason;
     let invalid = reason.is_invalid();
+    let origin = stroke.origin;
     put_vertex(vertices, k, vertex);
     put_flag(flags, indexes, k, j, invalid, stroke.number);
+    put_origin(origins, k, origin);
     Places {
         strokes: k + 1,
         marks: j + invalid as usize,
@@ -181,13 +196,15 @@ fn store_turn(
     vertices: &mut [f64],
     flags: &mut [u8],
     indexes: &mut [u32],
+    origins: &mut [u32],
     places: Places,
     turned: Turned,
     eps: f64,
 ) -> Left
-    requires { ⌜ (turned .walk .leading ≡ 0 → Rooms 2 (laid places (buffers (now vertices) (now flags) (now indexes)))) × (turned .walk .pen .number .0 + 2 < 0x1_0000_0000) ⌝ }
-    ensures { λ r. ⌜ laid (r .places) (buffers (now (vertices .exit)) (now (flags .exit)) (now (indexes .exit)))
-        ≡ stores (turnStrokes (turned .walk .leading) (turned .walk .pen) (turned .span) (turned .connector) eps) (laid places (buffers (now (vertices .entry)) (now (flags .entry)) (now (indexes .entry)))) ⌝ }
+    requires { ⌜ (turned .walk .leading ≡ 0 → Rooms 2 (laid places (buffers (now vertices) (now flags) (now indexes) (originsIn (now origins))))) × (turned .walk .pen .number .0 + 2 < 0x1_0000_0000) ⌝ }
+    requires { ⌜ Coded (turned .span .origin) × Coded (turned .connector .origin) ⌝ }
+    ensures { λ r. ⌜ laid (r .places) (buffers (now (vertices .exit)) (now (flags .exit)) (now (indexes .exit)) (originsIn (now (origins .exit))))
+        ≡ stores (turnStrokes (turned .walk .leading) (turned .walk .pen) (turned .span) (turned .connector) eps) (laid places (buffers (now (vertices .entry)) (now (flags .entry)) (now (indexes .entry)) (originsIn (now (origins .entry))))) ⌝ }
     ensures { λ r. ⌜ (r .pen ≡ penTurned (turned .walk .pen) (turned .span) (turned .connector) eps) × (r .later ≡ laterOf (places .strokes) turned eps) ⌝ }
 {
     let walk = turned.walk;
@@ -201,10 +218,26 @@ fn store_turn(
         place: places.strokes,
         sweep: turned.sweep,
     };
-    let half = store(vertices, flags, indexes, places, drawn, first.stroke);
+    let half = store(
+        vertices,
+        flags,
+        indexes,
+        origins,
+        places,
+        drawn,
+        first.stroke,
+    );
     let second = first.pen.step(turned.connector, eps);
     let drawn = moves::both(drawing, second.kept);
-    let places = store(vertices, flags, indexes, half, drawn, second.stroke);
+    let places = store(
+        vertices,
+        flags,
+        indexes,
+        origins,
+        half,
+        drawn,
+        second.stroke,
+    );
     let pen = second.pen;
     Left { pen, places, later }
 }
@@ -270,10 +303,11 @@ fn store_turns(
     vertices: &mut [f64],
     flags: &mut [u8],
     indexes: &mut [u32],
+    origins: &mut [u32],
 ) -> Sheet
-    requires { ⌜ Starts v «from» turns first (now source) (buffers (now vertices) (now flags) (now indexes)) ⌝ }
-    ensures { λ r. ⌜ trail r (buffers (now (vertices .exit)) (now (flags .exit)) (now (indexes .exit)))
-        ≡ advances closed settings (routed v turns «from» (now (source .entry))) (trail first (buffers (now (vertices .entry)) (now (flags .entry)) (now (indexes .entry)))) ⌝ }
+    requires { ⌜ Starts v «from» turns first (now source) (buffers (now vertices) (now flags) (now indexes) (originsIn (now origins))) ⌝ }
+    ensures { λ r. ⌜ trail r (buffers (now (vertices .exit)) (now (flags .exit)) (now (indexes .exit)) (originsIn (now (origins .exit))))
+        ≡ advances closed settings (routed v turns «from» (now (source .entry))) (trail first (buffers (now (vertices .entry)) (now (flags .entry)) (now (indexes .entry)) (originsIn (now (origins .entry))))) ⌝ }
     ensures { λ r. ⌜ Fit (r .walk) ⌝ }
 {
     let mut walk = first.walk;
@@ -291,8 +325,8 @@ fn store_turns(
         let segment = segments::offset_seg(walk.vertex, to, chord, sweep, settings.offset);
         let half = later.begin();
         let turned = walk.turn(to, segment, settings);
-        let here = later.write(vertices, half, places);
-        let left = store_turn(vertices, flags, indexes, here, turned, settings.eps);
+        let far = later.write(vertices, half, places);
+        let left = store_turn(vertices, flags, indexes, origins, far, turned, settings.eps);
         later = left.later;
         places = left.places;
         walk = turned.walk.after(left.pen, closed);
@@ -330,22 +364,32 @@ fn clear_indexes(indexes: &mut [u32], from: usize, count: usize)
     }
 }
 
-// Zeros from vertex v, flag f and index i on, up to `room` places of each.
+// Zero stands for the span of segment 0.
+fn clear_origins(origins: &mut [u32], from: usize, count: usize)
+    requires { ⌜ from + count ≤ length (now origins) ⌝ }
+    ensures { λ _. ⌜ originsIn (now (origins .exit)) ≡ cleared noOrigin from count (originsIn (now (origins .entry))) ⌝ }
+{
+    clear_indexes(origins, from, count);
+}
+
+// Zeros from vertex v, flag and origin f, and index i on, up to `room` places of each.
 fn wipe(
     vertices: &mut [f64],
     flags: &mut [u8],
     indexes: &mut [u32],
+    origins: &mut [u32],
     room: usize,
     v: usize,
     f: usize,
     i: usize,
 )
-    requires { ⌜ Within room v f i (buffers (now vertices) (now flags) (now indexes)) ⌝ }
-    ensures { λ _. ⌜ buffers (now (vertices .exit)) (now (flags .exit)) (now (indexes .exit)) ≡ wiped room v f i (buffers (now (vertices .entry)) (now (flags .entry)) (now (indexes .entry))) ⌝ }
+    requires { ⌜ Within room v f i (buffers (now vertices) (now flags) (now indexes) (originsIn (now origins))) ⌝ }
+    ensures { λ _. ⌜ buffers (now (vertices .exit)) (now (flags .exit)) (now (indexes .exit)) (originsIn (now (origins .exit))) ≡ wiped room v f i (buffers (now (vertices .entry)) (now (flags .entry)) (now (indexes .entry)) (originsIn (now (origins .entry)))) ⌝ }
 {
     clear_vertices(vertices, 3 * v, 3 * room - 3 * v);
     clear_flags(flags, f, room - f);
     clear_indexes(indexes, i, room - i);
+    clear_origins(origins, f, room - f);
 }
 
 // What was built: an answer, or numbers that are not all finite.
@@ -359,19 +403,21 @@ fn finish(
     vertices: &mut [f64],
     flags: &mut [u8],
     indexes: &mut [u32],
+    origins: &mut [u32],
     places: Places,
     result: RawOffsetResult,
     room: usize,
 ) -> Built
-    requires { ⌜ Within room (result .vertices) (places .strokes) (places .marks) (buffers (now vertices) (now flags) (now indexes)) ⌝ }
-    ensures { λ r. ⌜ finished r (buffers (now (vertices .exit)) (now (flags .exit)) (now (indexes .exit)))
-        ≡ finishes room result (laid places (buffers (now (vertices .entry)) (now (flags .entry)) (now (indexes .entry)))) ⌝ }
+    requires { ⌜ Within room (result .vertices) (places .strokes) (places .marks) (buffers (now vertices) (now flags) (now indexes) (originsIn (now origins))) ⌝ }
+    ensures { λ r. ⌜ finished r (buffers (now (vertices .exit)) (now (flags .exit)) (now (indexes .exit)) (originsIn (now (origins .exit))))
+        ≡ finishes room result (laid places (buffers (now (vertices .entry)) (now (flags .entry)) (now (indexes .entry)) (originsIn (now (origins .entry))))) ⌝ }
 {
     if places.all_finite() {
         wipe(
             vertices,
             flags,
             indexes,
+            origins,
             room,
             result.vertices as usize,
             places.strokes,
@@ -379,7 +425,7 @@ fn finish(
         );
         return Built::Done(result);
     }
-    wipe(vertices, flags, indexes, room, 0, 0, 0);
+    wipe(vertices, flags, indexes, origins, room, 0, 0, 0);
     Built::NotFinite
 }
 
@@ -391,10 +437,11 @@ fn draw_closed(
     vertices: &mut [f64],
     flags: &mut [u8],
     indexes: &mut [u32],
+    origins: &mut [u32],
 ) -> Built
-    requires { ⌜ Ready v (2 * v) (now source) (buffers (now vertices) (now flags) (now indexes)) ⌝ }
-    ensures { λ r. ⌜ finished r (buffers (now (vertices .exit)) (now (flags .exit)) (now (indexes .exit)))
-        ≡ builtOf (2 * v) (drawingOf true settings (verticesOf (now (source .entry)))) (buffers (now (vertices .entry)) (now (flags .entry)) (now (indexes .entry))) ⌝ }
+    requires { ⌜ Ready v (2 * v) (now source) (buffers (now vertices) (now flags) (now indexes) (originsIn (now origins))) ⌝ }
+    ensures { λ r. ⌜ finished r (buffers (now (vertices .exit)) (now (flags .exit)) (now (indexes .exit)) (originsIn (now (origins .exit))))
+        ≡ builtOf (2 * v) (drawingOf true settings (verticesOf (now (source .entry)))) (buffers (now (vertices .entry)) (now (flags .entry)) (now (indexes .entry)) (originsIn (now (origins .entry)))) ⌝ }
 {
     let first = Sheet::standing(source::vertex_at(source, v - 1), 2);
     let led = store_turns(
@@ -408,8 +455,9 @@ fn draw_closed(
         vertices,
         flags,
         indexes,
+        origins,
     );
-    draw_around(source, v, led, settings, vertices, flags, indexes)
+    draw_around(source, v, led, settings, vertices, flags, indexes, origins)
 }
 
 // From the first segment once around, back to its start, and the closing moves.
@@ -421,10 +469,11 @@ fn draw_around(
     vertices: &mut [f64],
     flags: &mut [u8],
     indexes: &mut [u32],
+    origins: &mut [u32],
 ) -> Built
-    requires { ⌜ Ready v (2 * v) (now source) (buffers (now vertices) (now flags) (now indexes)) × Entered led ⌝ }
-    ensures { λ r. ⌜ finished r (buffers (now (vertices .exit)) (now (flags .exit)) (now (indexes .exit)))
-        ≡ closes (2 * v) (led .walk .entry) (settings .eps) (advances true settings (routed v (v - 1) (nextOf v 1) (now (source .entry))) (trail led (buffers (now (vertices .entry)) (now (flags .entry)) (now (indexes .entry))))) ⌝ }
+    requires { ⌜ Ready v (2 * v) (now source) (buffers (now vertices) (now flags) (now indexes) (originsIn (now origins))) × Entered led ⌝ }
+    ensures { λ r. ⌜ finished r (buffers (now (vertices .exit)) (now (flags .exit)) (now (indexes .exit)) (originsIn (now (origins .exit))))
+        ≡ closes (2 * v) (led .walk .entry) (settings .eps) (advances true settings (routed v (v - 1) (nextOf v 1) (now (source .entry))) (trail led (buffers (now (vertices .entry)) (now (flags .entry)) (now (indexes .entry)) (originsIn (now (origins .entry)))))) ⌝ }
 {
     let walk = led.walk;
     let next = source::next_place(v, 1);
@@ -439,11 +488,13 @@ fn draw_around(
         vertices,
         flags,
         indexes,
+        origins,
     );
     draw_closing(
         vertices,
         flags,
         indexes,
+        origins,
         sheet,
         walk.entry,
         settings.eps,
@@ -457,14 +508,15 @@ fn draw_closing(
     vertices: &mut [f64],
     flags: &mut [u8],
     indexes: &mut [u32],
+    origins: &mut [u32],
     sheet: Sheet,
     closing: JoinBoundary,
     eps: f64,
     room: usize,
 ) -> Built
-    requires { ⌜ Lasts room sheet (buffers (now vertices) (now flags) (now indexes)) ⌝ }
-    ensures { λ r. ⌜ finished r (buffers (now (vertices .exit)) (now (flags .exit)) (now (indexes .exit)))
-        ≡ closes room closing eps (trail sheet (buffers (now (vertices .entry)) (now (flags .entry)) (now (indexes .entry)))) ⌝ }
+    requires { ⌜ Lasts room sheet (buffers (now vertices) (now flags) (now indexes) (originsIn (now origins))) ⌝ }
+    ensures { λ r. ⌜ finished r (buffers (now (vertices .exit)) (now (flags .exit)) (now (indexes .exit)) (originsIn (now (origins .exit))))
+        ≡ closes room closing eps (trail sheet (buffers (now (vertices .entry)) (now (flags .entry)) (now (indexes .entry)) (originsIn (now (origins .entry))))) ⌝ }
 {
     let walk = sheet.walk;
     let span = walk.span_to(closing.current_end, closing.current_param);
@@ -473,19 +525,28 @@ fn draw_closing(
         vertices,
         flags,
         indexes,
+        origins,
         sheet.places,
         first.kept,
         first.stroke,
     );
     let connector = Move::connector(walk.source, closing);
     let second = first.pen.step(connector, eps);
-    let places = store(vertices, flags, indexes, half, second.kept, second.stroke);
+    let places = store(
+        vertices,
+        flags,
+        indexes,
+        origins,
+        half,
+        second.kept,
+        second.stroke,
+    );
     let result = RawOffsetResult {
         vertices: places.strokes as u32,
         indexes: places.marks as u32,
         closed: places.strokes != 0,
     };
-    finish(vertices, flags, indexes, places, result, room)
+    finish(vertices, flags, indexes, origins, places, result, room)
 }
 
 // After an open walk: its last vertex. A lone vertex has no offset geometry.
@@ -493,18 +554,19 @@ fn finish_open(
     vertices: &mut [f64],
     flags: &mut [u8],
     indexes: &mut [u32],
+    origins: &mut [u32],
     places: Places,
     pen: Pen,
     room: usize,
 ) -> Built
-    requires { ⌜ Within room (places .strokes + 1) (places .strokes) (places .marks) (buffers (now vertices) (now flags) (now indexes)) ⌝ }
-    ensures { λ r. ⌜ finished r (buffers (now (vertices .exit)) (now (flags .exit)) (now (indexes .exit)))
-        ≡ finishesOpen room pen (laid places (buffers (now (vertices .entry)) (now (flags .entry)) (now (indexes .entry)))) ⌝ }
+    requires { ⌜ Within room (places .strokes + 1) (places .strokes) (places .marks) (buffers (now vertices) (now flags) (now indexes) (originsIn (now origins))) ⌝ }
+    ensures { λ r. ⌜ finished r (buffers (now (vertices .exit)) (now (flags .exit)) (now (indexes .exit)) (originsIn (now (origins .exit))))
+        ≡ finishesOpen room pen (laid places (buffers (now (vertices .entry)) (now (flags .entry)) (now (indexes .entry)) (originsIn (now (origins .entry))))) ⌝ }
 {
     let k = places.strokes;
     let j = places.marks;
     if k == 0 {
-        wipe(vertices, flags, indexes, room, 0, 0, 0);
+        wipe(vertices, flags, indexes, origins, room, 0, 0, 0);
         return Built::Done(RawOffsetResult::empty());
     }
     let last = PlineVertex::from_vector2(pen.last, 0.0);
@@ -519,7 +581,7 @@ fn finish_open(
         closed: false,
     };
     put_vertex(vertices, k, last);
-    finish(vertices, flags, indexes, ended, result, room)
+    finish(vertices, flags, indexes, origins, ended, result, room)
 }
 
 // An open walk: led in by one turn, from the first vertex. A lone collapsed arc has no offset geometry.
@@ -530,10 +592,11 @@ fn draw_open(
     vertices: &mut [f64],
     flags: &mut [u8],
     indexes: &mut [u32],
+    origins: &mut [u32],
 ) -> Built
-    requires { ⌜ Ready v (2 * (v - 1)) (now source) (buffers (now vertices) (now flags) (now indexes)) ⌝ }
-    ensures { λ r. ⌜ finished r (buffers (now (vertices .exit)) (now (flags .exit)) (now (indexes .exit)))
-        ≡ builtOf (2 * (v - 1)) (drawingOf false settings (verticesOf (now (source .entry)))) (buffers (now (vertices .entry)) (now (flags .entry)) (now (indexes .entry))) ⌝ }
+    requires { ⌜ Ready v (2 * (v - 1)) (now source) (buffers (now vertices) (now flags) (now indexes) (originsIn (now origins))) ⌝ }
+    ensures { λ r. ⌜ finished r (buffers (now (vertices .exit)) (now (flags .exit)) (now (indexes .exit)) (originsIn (now (origins .exit))))
+        ≡ builtOf (2 * (v - 1)) (drawingOf false settings (verticesOf (now (source .entry)))) (buffers (now (vertices .entry)) (now (flags .entry)) (now (indexes .entry)) (originsIn (now (origins .entry)))) ⌝ }
 {
     let first = Sheet::standing(source::vertex_at(source, 0), 1);
     let sheet = store_turns(
@@ -547,11 +610,13 @@ fn draw_open(
         vertices,
         flags,
         indexes,
+        origins,
     );
     draw_last(
         vertices,
         flags,
         indexes,
+        origins,
         sheet,
         v == 2,
         settings.eps,
@@ -564,19 +629,20 @@ fn draw_last(
     vertices: &mut [f64],
     flags: &mut [u8],
     indexes: &mut [u32],
+    origins: &mut [u32],
     sheet: Sheet,
     alone: bool,
     eps: f64,
     room: usize,
 ) -> Built
-    requires { ⌜ Lasts room sheet (buffers (now vertices) (now flags) (now indexes)) ⌝ }
-    ensures { λ r. ⌜ finished r (buffers (now (vertices .exit)) (now (flags .exit)) (now (indexes .exit)))
-        ≡ lasts room alone eps (trail sheet (buffers (now (vertices .entry)) (now (flags .entry)) (now (indexes .entry)))) ⌝ }
+    requires { ⌜ Lasts room sheet (buffers (now vertices) (now flags) (now indexes) (originsIn (now origins))) ⌝ }
+    ensures { λ r. ⌜ finished r (buffers (now (vertices .exit)) (now (flags .exit)) (now (indexes .exit)) (originsIn (now (origins .exit))))
+        ≡ lasts room alone eps (trail sheet (buffers (now (vertices .entry)) (now (flags .entry)) (now (indexes .entry)) (originsIn (now (origins .entry))))) ⌝ }
 {
     let walk = sheet.walk;
     let current = walk.current;
     if moves::both(alone, current.is_collapsed()) {
-        wipe(vertices, flags, indexes, room, 0, 0, 0);
+        wipe(vertices, flags, indexes, origins, room, 0, 0, 0);
         return Built::Done(RawOffsetResult::empty());
     }
     let last = walk.pen.step(walk.span_to(current.end(), 1.0), eps);
@@ -584,11 +650,12 @@ fn draw_last(
         vertices,
         flags,
         indexes,
+        origins,
         sheet.places,
         last.kept,
         last.stroke,
     );
-    finish_open(vertices, flags, indexes, places, last.pen, room)
+    finish_open(vertices, flags, indexes, origins, places, last.pen, room)
 }
 
 // The raw offset of a source of v vertices, in the first places of each buffer, two for each segment.
@@ -600,18 +667,19 @@ pub fn draw(
     vertices: &mut [f64],
     flags: &mut [u8],
     indexes: &mut [u32],
+    origins: &mut [u32],
 ) -> Built
-    requires { ⌜ Ready v (2 * segmentsOf closed v) (now source) (buffers (now vertices) (now flags) (now indexes)) ⌝ }
-    ensures { λ r. ⌜ finished r (buffers (now (vertices .exit)) (now (flags .exit)) (now (indexes .exit)))
-        ≡ builtOf (2 * segmentsOf closed v) (drawingOf closed settings (verticesOf (now (source .entry)))) (buffers (now (vertices .entry)) (now (flags .entry)) (now (indexes .entry))) ⌝ }
+    requires { ⌜ Ready v (2 * segmentsOf closed v) (now source) (buffers (now vertices) (now flags) (now indexes) (originsIn (now origins))) ⌝ }
+    ensures { λ r. ⌜ finished r (buffers (now (vertices .exit)) (now (flags .exit)) (now (indexes .exit)) (originsIn (now (origins .exit))))
+        ≡ builtOf (2 * segmentsOf closed v) (drawingOf closed settings (verticesOf (now (source .entry)))) (buffers (now (vertices .entry)) (now (flags .entry)) (now (indexes .entry)) (originsIn (now (origins .entry)))) ⌝ }
 {
     if closed {
-        return draw_closed(source, v, settings, vertices, flags, indexes);
+        return draw_closed(source, v, settings, vertices, flags, indexes, origins);
     }
-    draw_open(source, v, settings, vertices, flags, indexes)
+    draw_open(source, v, settings, vertices, flags, indexes, origins)
 }
 
-// The source as it is, with no flag set: what an offset of zero draws.
+// The source as it is, with no flag set and each segment its own span: what an offset of zero draws.
 pub fn copy(
     source: &[f64],
     v: usize,
@@ -619,14 +687,17 @@ pub fn copy(
     vertices: &mut [f64],
     flags: &mut [u8],
     indexes: &mut [u32],
+    origins: &mut [u32],
 ) -> RawOffsetResult
-    requires { ⌜ Ready v (2 * segmentsOf closed v) (now source) (buffers (now vertices) (now flags) (now indexes)) ⌝ }
+    requires { ⌜ Ready v (2 * segmentsOf closed v) (now source) (buffers (now vertices) (now flags) (now indexes) (originsIn (now origins))) ⌝ }
     ensures { λ r. ⌜ (r ≡ resultOf (copied closed (verticesOf (now (source .entry)))))
-        × (buffers (now (vertices .exit)) (now (flags .exit)) (now (indexes .exit)) ≡ shown (2 * segmentsOf closed v) (copied closed (verticesOf (now (source .entry)))) (buffers (now (vertices .entry)) (now (flags .entry)) (now (indexes .entry)))) ⌝ }
+        × (buffers (now (vertices .exit)) (now (flags .exit)) (now (indexes .exit)) (originsIn (now (origins .exit)))
+        ≡ shown (2 * segmentsOf closed v) (copied closed (verticesOf (now (source .entry)))) (buffers (now (vertices .entry)) (now (flags .entry)) (now (indexes .entry)) (originsIn (now (origins .entry))))) ⌝ }
 {
     copy_numbers(source, 3 * v, vertices);
-    let room = 2 * source::segment_count(v, closed);
-    wipe(vertices, flags, indexes, room, v, 0, 0);
+    let count = source::segment_count(v, closed);
+    wipe(vertices, flags, indexes, origins, 2 * count, v, 0, 0);
+    put_spans(origins, count);
     RawOffsetResult {
         vertices: v as u32,
         indexes: 0,
@@ -640,5 +711,16 @@ fn copy_numbers(source: &[f64], count: usize, vertices: &mut [f64])
 {
     for i in 0..count {
         vertices[i] = source[i];
+    }
+}
+
+// The spans of the first segments, each its own.
+fn put_spans(origins: &mut [u32], count: usize)
+    requires { ⌜ (count ≤ length (now origins)) × (count ≤ 4096) ⌝ }
+    ensures { λ _. ⌜ originsIn (now (origins .exit)) ≡ over (spansFrom 0 count) (originsIn (now (origins .entry))) ⌝ }
+{
+    for k in 0..count {
+        let source = SourceSegment(k as u32);
+        put_origin(origins, k, Origin::Span(source));
     }
 }

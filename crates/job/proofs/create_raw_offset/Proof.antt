@@ -24,8 +24,8 @@ returns-4 c =
 
 returns-5 : tie.Need-returns-5
 returns-5 c =
-    let call = c .before .before .before .before .before .before in
-    let two = call .before .before .before .before in
+    let call = c .before .before .before .before .before .before .before .before in
+    let two = call .before .before .before .before .before in
     let searched = two .before .before .before in
     let nowhere = sym (searched .first-bad-number .ensures) ∙ two .before .enum-told .given .1 in
     good-ends _ _ _ _ (searched .before .before .if1 .left) (searched .before .if2 .left) nowhere (two .if3 .left) (call .offset-good .ensures)
@@ -43,6 +43,7 @@ create-raw-offset-spec =
     (λ c κs. search needs)
     returns-4
     (λ c κs. search needs)
+    (λ c. search needs)
     (λ c. search needs)
     (λ c. search needs)
     (λ c. search needs)

@@ -11,21 +11,21 @@ returns c = repeated-ends _ _ _ _ _ _ (sym (c .before .before .before .first-rep
 
 draw-requires : tie.Need-draw-requires
 unfolding roomFor
-draw-requires c κs = c .before .before .before .before .before .before .before .before .before .before .pre
+draw-requires c κs = c .before .before .before .before .before .before .before .before .before .before .before .before .pre
 
 returns-2 : tie.Need-returns-2
 unfolding roomFor
 returns-2 c =
-    let call = c .before .before .before .before .before .before .before .before .before in
-    let searched = call .before .before .before .before in
+    let call = c .before .before .before .before .before .before .before .before .before .before .before in
+    let searched = call .before .before .before .before .before in
     let nowhere = sym (searched .before .before .first-repeated .ensures) ∙ searched .enum-told .given .1 in
     rw (c .before .built .given .1) at (drawn-ends _ _ _ _ _ nowhere (call .draw .ensures))
 
 returns-3 : tie.Need-returns-3
 unfolding roomFor
 returns-3 c =
-    let call = c .before .before .before .before .before .before .before .before in
-    let searched = call .before .before .before .before in
+    let call = c .before .before .before .before .before .before .before .before .before .before in
+    let searched = call .before .before .before .before .before in
     let nowhere = sym (searched .before .before .first-repeated .ensures) ∙ searched .enum-told .given .1 in
     rw (c .enum-told2 .given .1) at (drawn-ends _ _ _ _ _ nowhere (call .draw .ensures))
 
@@ -43,7 +43,9 @@ offset-nonzero-spec =
     (λ c. search needs)
     (λ c. search needs)
     (λ c. search needs)
+    (λ c. search needs)
     returns-2
+    (λ c. search needs)
     (λ c. search needs)
     (λ c. search needs)
     (λ c. search needs)

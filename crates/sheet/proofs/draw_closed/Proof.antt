@@ -4,32 +4,33 @@ use mathlib.Core.Path.{_∙_}
 use native.Mathlib.Omega.{arith}
 use Rattle.sheet.proofs.Loop.{turns-first}
 use Rattle.sheet.proofs.Whole.{ready-alike, closed-entered, closed-built}
+use Rattle.moves.proofs.Origins.{origins-alike}
 use Rattle.sheet.proofs.draw_closed.Statement.{statement}
 use Rattle.sheet.proofs.draw_closed.Tie as tie
 
 store-turns-requires : tie.Need-store-turns-requires
 store-turns-requires c κs =
-    let first = c .before .before .before in
-    let r = first .before .before .before .before .before .before .pre in
+    let first = c .before .before .before .before in
+    let r = first .before .before .before .before .before .before .before .pre in
     record { long = r .long; below = omega (arith, r .two); turns = turns-first 2 2 _ _ r (first .standing .ensures) (omega arith) (omega arith) }
 
 draw-around-requires : tie.Need-draw-around-requires
 draw-around-requires c κs =
-    let t = c .before .before .before .before .before .before .before .before .before in
-    let first = t .before .before .before .before in
-    let start = first .before .before .before .before .before .before in
+    let t = c .before .before .before .before .before .before .before .before .before .before .before .before in
+    let first = t .before .before .before .before .before in
+    let start = first .before .before .before .before .before .before .before in
     let k = t .store-turns .kept .1 .1 .1 .1 .1 .1 .1 in (
-      ready-alike (start .pre) (record { vertices = k .0; flags = k .1 .0; indexes = k .1 .1 .0 }),
+      ready-alike (start .pre) (record { vertices = k .0; flags = k .1 .0; indexes = k .1 .1 .0; origins = origins-alike _ _ (k .1 .1 .1 .0) }),
       closed-entered (start .args .settings) _ _ _ (t .store-turns .result) (start .pre)
           (t .store-turns .ensures .0 ∙ rw (first .standing .ensures .0, first .standing .ensures .2, first .before .vertex-at .ensures)) (t .store-turns .ensures .1),
     )
 
 returns : tie.Need-returns
 returns c =
-    let t = c .before .before .before .before .before .before .before .before .before .before .before .before .before .before .before .before in
-    let first = t .before .before .before .before in
-    let start = first .before .before .before .before .before .before in
-    c .before .before .before .before .before .before .draw-around .ensures
+    let t = c .before .before .before .before .before .before .before .before .before .before .before .before .before .before .before .before .before .before .before .before .before in
+    let first = t .before .before .before .before .before in
+    let start = first .before .before .before .before .before .before .before in
+    c .before .before .before .before .before .before .before .before .draw-around .ensures
     ∙ closed-built (start .args .settings) _ _ _ (t .store-turns .result) (start .pre)
     (t .store-turns .ensures .0 ∙ rw (first .standing .ensures .0, first .standing .ensures .2, first .before .vertex-at .ensures))
 
@@ -42,6 +43,7 @@ draw-closed-spec =
     (λ c κs. tt)
     store-turns-requires
     draw-around-requires
+    (λ c. search needs)
     (λ c. search needs)
     (λ c. search needs)
     (λ c. search needs)

@@ -10,15 +10,15 @@ use Rattle.sheet.proofs.finish.Tie as tie
 returns : tie.Need-returns
 unfolding finishes
 returns c =
-    let end = c .before .before .before .before .before .before in
-    let then = end .before .before .before .before .before in
+    let end = c .before .before .before .before .before .before .before .before in
+    let then = end .before .before .before .before .before .before in
     yes _ _ _ (sym (then .before .all-finite .ensures) ∙ then .if1 .taken) (ap (finished (Done _)) (end .wipe .ensures))
 
 returns-2 : tie.Need-returns-2
 unfolding finishes
 returns-2 c =
-    let end = c .before .before .before .before .before .before in
-    let else = end .before .before .before .before in
+    let end = c .before .before .before .before .before .before .before .before in
+    let else = end .before .before .before .before .before in
     no _ _ _ (sym (else .before .all-finite .ensures) ∙ else .if1 .left) (ap (finished NotFinite) (end .wipe2 .ensures))
 
 pub finish-spec : {M : Type 1} → statement M
@@ -31,8 +31,10 @@ finish-spec =
     (λ c. search needs)
     (λ c. search needs)
     (λ c. search needs)
+    (λ c. search needs)
     returns
     (λ c κs. search needs)
+    (λ c. search needs)
     (λ c. search needs)
     (λ c. search needs)
     (λ c. search needs)

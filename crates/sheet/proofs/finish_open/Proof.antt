@@ -10,14 +10,14 @@ use Rattle.sheet.proofs.finish_open.Tie as tie
 returns : tie.Need-returns
 unfolding finishesOpen
 returns c =
-    let end = c .before .before .before .before .before .before .before in
-    yes _ _ _ (eq-eqb _ _ (end .before .before .before .before .if1 .taken)) (rw (c .empty .ensures, end .wipe .ensures))
+    let end = c .before .before .before .before .before .before .before .before .before in
+    yes _ _ _ (eq-eqb _ _ (end .before .before .before .before .before .if1 .taken)) (rw (c .empty .ensures, end .wipe .ensures))
 
 returns-2 : tie.Need-returns-2
 unfolding finishesOpen
 returns-2 c =
-    let end = c .before .before .before .before .before .before in
-    let last = end .before .before .before .before .before .before in
+    let end = c .before .before .before .before .before .before .before .before in
+    let last = end .before .before .before .before .before .before .before in
     let doubt = last .before .before .before in
     let vertex = doubt .before in
     no _ _ _ (ne-eqb _ _ (vertex .before .if1 .left))
@@ -32,6 +32,7 @@ finish-open-spec =
     (λ c. search needs)
     (λ c. search needs)
     (λ c. search needs)
+    (λ c. search needs)
     returns
     (λ c κs. search needs)
     (λ c κs. search needs)
@@ -40,6 +41,7 @@ finish-open-spec =
     (λ c. search needs)
     (λ c κs. search needs)
     (λ c κs. search needs)
+    (λ c. search needs)
     (λ c. search needs)
     (λ c. search needs)
     (λ c. search needs)

@@ -5,32 +5,34 @@ use Prim.Native.Nat.{_-_}
 use native.Mathlib.Omega.{arith}
 use Rattle.segments.specs.InnerSteps.{chordOf}
 use Rattle.walk.specs.InnerSteps.{stood}
+use Rattle.moves.specs.Origins.{originsIn}
+use Rattle.moves.proofs.Origins.{origins-alike, lent-alike}
 use Rattle.sheet.specs.Buffers.{buffers}
 use Rattle.sheet.specs.InnerSteps.{Laid, trail, advances, routed}
-use Rattle.sheet.proofs.Loop.{Walking, wrote-later, walking-none, walking-turn, walking-done, walking-fit, room-later, room-turn}
+use Rattle.sheet.proofs.Loop.{Walking, wrote-later, walking-none, walking-turn, walking-done, walking-fit, room-later, room-turn, coded-turn}
 use Rattle.sheet.proofs.store_turns.Statement.{statement}
 use Rattle.sheet.proofs.store_turns.Tie as tie
 
 abbrev Inv-loop : tie.InvT-loop
-Inv-loop source v closed start n settings vertices₀ flags₀ indexes₀ walk₀ places₀ k₀ chord₀ keys₀ sweeps₀ later₀ i₀ vertices flags indexes walk places k chord keys sweeps later i =
-    let b₀ = buffers vertices₀ flags₀ indexes₀ in
+Inv-loop source v closed start n settings vertices₀ flags₀ indexes₀ origins₀ walk₀ places₀ k₀ chord₀ keys₀ sweeps₀ later₀ i₀ vertices flags indexes origins walk places k chord keys sweeps later i =
+    let b₀ = buffers vertices₀ flags₀ indexes₀ (originsIn origins₀) in
     Walking closed settings source v n b₀ (advances closed settings (routed v n start source) (trail (record { walk = walk₀; places = places₀ }) b₀)) i k walk places later
-    (buffers vertices flags indexes) chord keys sweeps
+    (buffers vertices flags indexes (originsIn origins)) chord keys sweeps
 
 abbrev μ-loop : tie.MeasureT-loop
-μ-loop source v closed start n settings vertices₀ flags₀ indexes₀ walk₀ places₀ k₀ chord₀ keys₀ sweeps₀ later₀ i₀ vertices flags indexes walk places k chord keys sweeps later i = n - i
+μ-loop source v closed start n settings vertices₀ flags₀ indexes₀ origins₀ walk₀ places₀ k₀ chord₀ keys₀ sweeps₀ later₀ i₀ vertices flags indexes origins walk places k chord keys sweeps later i = n - i
 
 loop-holds : tie.Need-loop-holds Inv-loop μ-loop
 loop-holds c =
     let chord = c .before in
-    let pre = chord .before .before .before .before .before .before .before .pre in
+    let pre = chord .before .before .before .before .before .before .before .before .pre in
     walking-none (c .nothing .ensures) (pre .below) (pre .turns) (chord .chord-to .ensures)
 
 sweep-from-requires : tie.Need-sweep-from-requires Inv-loop μ-loop
 sweep-from-requires c κs =
     let here = c .before .before .before .before .before .before in
     let on = here .loop .inv in
-    (on .memo, (on .below, omega (arith, here .before .before .before .before .before .before .before .before .before .pre .long)))
+    (on .memo, (on .below, omega (arith, here .before .before .before .before .before .before .before .before .before .before .pre .long)))
 
 offset-seg-requires : tie.Need-offset-seg-requires Inv-loop μ-loop
 offset-seg-requires c κs =
@@ -45,28 +47,31 @@ turn-requires c κs =
 
 store-turn-requires : tie.Need-store-turn-requires Inv-loop μ-loop
 store-turn-requires c κs =
-    let wrote = c .before .before .before .before .before in
+    let wrote = c .before .before .before .before .before .before in
     let turn = wrote .before .before in
     let here = turn .before .before .before .before .before .before .before .before .before in
     let on = here .before .loop .inv in
     let w = wrote .write in
     let t = turn .turn .ensures in (
-      (λ z. room-turn on (w .result) (here .loop-test .taken) (w .ensures .1) (record { vertices = w .kept .1 .0; flags = refl; indexes = refl }) (sym (t .4) ∙ z)),
-      rw (t .3) (omega (arith, here .loop-test .taken, on .room .outputs)),
+      (
+        (λ z. room-turn on (w .result) (here .loop-test .taken) (w .ensures .1) (record { vertices = w .kept .1 .0; flags = refl; indexes = refl; origins = refl }) (sym (t .4) ∙ z)),
+        rw (t .3) (omega (arith, here .loop-test .taken, on .room .outputs)),
+      ),
+      coded-turn on _ (turn .turn .result) (here .loop-test .taken) (t .0),
     )
 
 next-fits : tie.Need-add--turn Inv-loop μ-loop
 next-fits c =
-    let here = c .before .before .before .before .before .before .before .before .before .before .before .before .before .before .before .before .before .before .before .before .before .before .before .before .before .before in
-    omega (arith, here .loop-test .taken, here .before .before .before .before .before .before .before .before .before .before .pre .turns .sources)
+    let here = c .before .before .before .before .before .before .before .before .before .before .before .before .before .before .before .before .before .before .before .before .before .before .before .before .before .before .before .before .before in
+    omega (arith, here .loop-test .taken, here .before .before .before .before .before .before .before .before .before .before .before .pre .turns .sources)
 
 loop-less : tie.Need-loop-less Inv-loop μ-loop
-loop-less c = omega (arith, c .before .before .before .before .before .before .before .before .before .before .before .before .before .before .before .before .before .before .before .before .before .before .before .before .before .before .loop-test .taken)
+loop-less c = omega (arith, c .before .before .before .before .before .before .before .before .before .before .before .before .before .before .before .before .before .before .before .before .before .before .before .before .before .before .before .before .before .loop-test .taken)
 
 loop-again : tie.Need-loop-again Inv-loop μ-loop
 loop-again c =
-    let drawn = c .before .before .before .before .before .before .before .before .before in
-    let wrote = drawn .before .before .before .before .before .before in
+    let drawn = c .before .before .before .before .before .before .before .before .before .before .before in
+    let wrote = drawn .before .before .before .before .before .before .before in
     let turn = wrote .before .before in
     let swept = turn .before .before .before in
     let here = swept .before .before .before .before .before .before in
@@ -79,7 +84,7 @@ loop-again c =
       here = w .result;
       between = _;
       pen = _;
-      wrote = wrote-later (l .later) (l .places) (w .result) (buffers (l .vertices) (l .flags) (l .indexes)) (w .ensures .0) (w .ensures .1);
+      wrote = wrote-later (l .later) (l .places) (w .result) (buffers (l .vertices) (l .flags) (l .indexes) (originsIn (l .origins))) (w .ensures .0) (w .ensures .1);
       turned = t .0;
       straight = t .1;
       same-pen = t .3;
@@ -90,7 +95,7 @@ loop-again c =
       after = c .after .ensures .0;
     })
     (swept .before .before .before .before .before .vertex-at .ensures) (c .after .ensures .1 (t .2))
-    (record { vertices = d .kept .0 ∙ w .kept .1 .0; flags = d .kept .1 .0; indexes = d .kept .1 .1 .0 })
+    (record { vertices = d .kept .0 ∙ w .kept .1 .0; flags = d .kept .1 .0; indexes = d .kept .1 .1 .0; origins = origins-alike _ _ (d .kept .1 .1 .1 .0) })
     (swept .before .before .before .before .next-place .ensures) (swept .before .before .before .chord-to2 .ensures) (swept .sweep-from .ensures .1)
 
 returns : tie.Need-returns Inv-loop μ-loop
@@ -99,7 +104,7 @@ returns c =
     let l = end .before .loop in
     let w = c .before .before .write2 in (
       ap (λ (x : Laid). record { stood = stood (l .walk); laid = x })
-          (wrote-later (l .later) (l .places) (w .result) (buffers (l .vertices) (l .flags) (l .indexes)) (w .ensures .0) (w .ensures .1))
+          (wrote-later (l .later) (l .places) (w .result) (buffers (l .vertices) (l .flags) (l .indexes) (originsIn (l .origins))) (w .ensures .0) (w .ensures .1))
           ∙ walking-done (l .inv) (end .loop-test .left),
       walking-fit (l .inv),
     )
@@ -110,12 +115,12 @@ store-turns-spec =
     (tie.spec
     Inv-loop
     μ-loop
-    (λ c κs. let pre = c .before .before .before .before .before .before .pre in omega (arith, pre .long, pre .below))
+    (λ c κs. let pre = c .before .before .before .before .before .before .before .pre in omega (arith, pre .long, pre .below))
     (λ c κs. tt)
     loop-holds
-    (λ c κs. omega (arith, c .before .loop .inv .below, c .before .before .before .before .before .before .before .before .before .before .pre .long))
+    (λ c κs. omega (arith, c .before .loop .inv .below, c .before .before .before .before .before .before .before .before .before .before .before .pre .long))
     (λ c κs. c .before .before .loop .inv .below)
-    (λ c κs. omega (arith, c .next-place .ensures .1, c .before .before .before .before .before .before .before .before .before .before .before .before .pre .long))
+    (λ c κs. omega (arith, c .next-place .ensures .1, c .before .before .before .before .before .before .before .before .before .before .before .before .before .pre .long))
     sweep-from-requires
     offset-seg-requires
     (λ c κs. tt)
@@ -131,4 +136,5 @@ store-turns-spec =
     (λ c. c .before .before .write2 .kept .1 .0 ∙ c .before .before .before .before .before .before .loop .inv .alike .vertices)
     (λ c. c .before .before .before .before .before .before .loop .inv .alike .flags)
     (λ c. c .before .before .before .before .before .before .loop .inv .alike .indexes)
+    (λ c. lent-alike _ _ (c .before .before .before .before .before .before .loop .inv .alike .origins))
     returns)
