@@ -5,10 +5,11 @@ use mathlib.Core.Logic.{_⊎_, inl, inr, _↔_}
 use mathlib.Core.List.{List, [], _∷_, _++_, append-assoc, List·Memᴰ, List·Memᴰ·head, List·Memᴰ·tail}
 use mathlib.Core.Bool.{Bool, true, false, not, true≢false, false≢true}
 use Prim.Native.Nat.{ℕ, zero, suc, _-_, _%_, _≤_, _<_}
+use native.Mathlib.Nat.{zero-add}
 use native.Mathlib.Omega.{arith}
 use borrow.Author.Tests.{ltb-true, ltb-false, lt-ltb, le-ltb}
 use lib.Dec.{T, ltb, eqb}
-use lib.ListN.{length, drop, getD, replicate, length-replicate, getD-replicate, List·getD-append}
+use lib.ListN.{length, drop, getD, replicate, length-append, length-replicate, getD-replicate, List·getD-append}
 use lib.Ieee.{eq}
 use Rattle.floats.specs.Binary64 as B
 use Rattle.floats.specs.Choice.{when_give_else_}
@@ -34,16 +35,17 @@ use Rattle.moves.specs.declared.Reason.{Reason}
 use Rattle.moves.specs.declared.Reason.the-variants.{InOrder, TurnedBack, CollapsedArc, Round, Reversal, Meeting, CollapsedSide, NoMeeting, CandidatesMissed, ZeroTangent, SameDirection, Copied}
 use Rattle.moves.specs.declared.RawOffsetResult.{RawOffsetResult}
 use Rattle.moves.specs.Reason.{reasonNumber, isInvalid}
-use Rattle.moves.specs.Drawing.{Drawing, nothing, moveEnd, kept, allFinite, resultOf}
+use Rattle.moves.specs.Drawing.{Drawing, nothing, moveEnd, kept, originsOf, allFinite, resultOf}
 use Rattle.moves.specs.Sound.{Sound, invalidAt, segmentCount}
 use Rattle.moves.proofs.Kept.{kept-mem}
 use Rattle.moves.proofs.Choices.{one-choice}
-use Rattle.walk.specs.Walk.{walkStart, walkMoves, walkDrawing, loneCollapsed, drawingOf, copied}
+use Rattle.walk.specs.Walk.{walkStart, walkMoves, walkDrawing, loneCollapsed, drawingOf, spansFrom, copied}
 use Rattle.walk.specs.Spans.{Edge, wholeStart, wholeEnd, startsOf, endsOf}
 use Rattle.walk.specs.Branches.{Is, Made}
 use Rattle.walk.proofs.Branches.{made}
 use Rattle.walk.proofs.Unmet.{never-met}
-use Rattle.sheet.specs.Buffers.{Buffers, shown}
+use Rattle.walk.proofs.Origins.{length-spans, span-at}
+use Rattle.sheet.specs.Buffers.{Buffers, padded, noOrigin, shown}
 use Rattle.job.specs.declared.RawOffsetAnswer.{RawOffsetAnswer}
 use Rattle.job.specs.declared.RawOffsetAnswer.the-variants as Job
 use Rattle.job.specs.Verdict.{Verdict, refused, drawn, refuse_at_else_, roomFor, roomyVerdict, verdictOf}
@@ -141,14 +143,31 @@ invalid↔flagged ZeroTangent = (λ e. gap (omega arith) (omega arith), λ f. re
 invalid↔flagged SameDirection = (λ e. gap (omega arith) (omega arith), λ f. refl)
 invalid↔flagged Copied = unset 12 (λ e. omega arith) (λ e. omega arith) (λ l h. omega arith)
 
--- the flags that a drawing leaves in the buffers are its own
+-- the flags and the origins that a drawing leaves in the buffers are its own
+padded-at : {A : Type 0} (z : A) (room : ℕ) (xs old : List A) (i : ℕ) (e : A) → i < length xs → getD (padded z room xs old) i e ≡ getD xs i e
+padded-at z room xs old i e h =
+    let unused = replicate (room - length xs) z in
+    ap (λ ys. getD ys i e) (append-assoc xs unused (drop room old)) ∙ List·getD-append xs (unused ++ drop room old) e i h
+
 shown-flag : (room : ℕ) (d : Drawing) (old : Buffers) (i : ℕ) → i < length (d .flags) → getD (shown room d old .flags) i 0 ≡ getD (d .flags) i 0
 unfolding shown
-shown-flag room d old i h =
-    let unused : List ℕ = replicate (room - length (d .flags)) 0 in
-    ap (λ (fs : List ℕ). getD fs i 0) (append-assoc (d .flags) unused (drop room (old .flags))) ∙ List·getD-append (d .flags) (unused ++ drop room (old .flags)) 0 i h
+shown-flag room d old i h = padded-at 0 room (d .flags) (old .flags) i 0 h
+
+shown-origin : (room : ℕ) (d : Drawing) (old : Buffers) (i : ℕ) {o : Origin} → Is (d .origins) i o → Is (shown room d old .origins) i o
+unfolding shown
+shown-origin room d old i {o} h = record {
+  there = omega (arith, h .there, length-append (d .origins ++ replicate (room - length (d .origins)) noOrigin) (drop room (old .origins)), length-append (d .origins) (replicate (room - length (d .origins)) noOrigin));
+  is = padded-at noOrigin room (d .origins) (old .origins) i o (h .there) ∙ h .is;
+}
 
 -- ---- rows
+
+-- the origin of the k-th move is the k-th origin
+origin-at : (ms : List Move) (k : ℕ) (m : Move) → Is ms k m → Is (originsOf ms) k (m .origin)
+unfolding originsOf
+origin-at [] k m h = absurd (let t = h .there in omega arith)
+origin-at (x ∷ ms) zero m h = record { there = omega arith; is = ap (λ (y : Move). y .origin) (h .is) }
+origin-at (x ∷ ms) (suc k) m h = let w = origin-at ms k m (record { there = omega (arith, h .there); is = h .is }) in record { there = omega (arith, w .there); is = w .is }
 
 any-default : {A : Type 0} (xs : List A) (i : ℕ) (d e : A) → i < length xs → getD xs i d ≡ getD xs i e
 any-default [] i d e h = absurd (omega arith)
@@ -199,6 +218,7 @@ module _ (j : Job) (k : ℕ) (r : RawOffsetResult) where
     none = (λ q. h, λ q. e);
     there = λ l. absurd (omega arith);
     flag = λ t q. absurd (other t q);
+    origin = λ t q. absurd (other t q);
     copied = λ t q. absurd (other t q);
     kept = λ t q. absurd (other t q);
   }
@@ -207,12 +227,14 @@ module _ (j : Job) (k : ℕ) (r : RawOffsetResult) where
       other t q = true≢false (cc)
 
   one-there : (t : Telling) → answered j k ≡ Told t → k < segmentsIn r → (getD (outcome j .buffers .flags) k 0 ≡ 1) ↔ Flagged (reasonNumber (t .reason))
+      → Is (outcome j .buffers .origins) k (t .origin)
       → (T (eq (j .settings .offset) B.zero) → t ≡ tellingFor wholeStart wholeEnd Copied (Span (record { 0 = k }))) → ((T (eq (j .settings .offset) B.zero) → ⊥) → KthKept j k t)
       → OfDone j k r
-  one-there t e l f c w = record {
+  one-there t e l f o c w = record {
     none = (λ q. absurd (true≢false (cc)), λ h. absurd (omega arith));
     there = λ h. (t, e);
     flag = λ u q. subst (λ (x : Telling). (getD (outcome j .buffers .flags) k 0 ≡ 1) ↔ Flagged (reasonNumber (x .reason))) (same u q) f;
+    origin = λ u q. subst (λ (x : Telling). Is (outcome j .buffers .origins) k (x .origin)) (same u q) o;
     copied = λ u q z. sym (same u q) ∙ c z;
     kept = λ u q n. subst (KthKept j k) (same u q) (w n);
   }
@@ -254,12 +276,20 @@ module _ (j : Job) (k : ℕ) (r : Roomy j) (z : T (eq (j .settings .offset) B.ze
       ap (λ (o : Outcome). getD (o .buffers .flags) k 0) is ∙ shown-flag (places j) (copied (j .closed) (points j)) (j .buffers) k (rw (length-replicate {A = ℕ} n 0) l)
       ∙ getD-replicate n k 0 0 l
 
+  itself : k < n → Is (outcome j .buffers .origins) k (Span (record { 0 = k }))
+  unfolding copied
+  itself l =
+      let spans = spansFrom 0 n in
+      subst (λ (o : Outcome). Is (o .buffers .origins) k (Span (record { 0 = k }))) (sym is)
+      (shown-origin (places j) (copied (j .closed) (points j)) (j .buffers) k
+      (record { there = rw (length-spans 0 n) l; is = span-at 0 n k (Span (record { 0 = k })) l ∙ rw zero-add }))
+
   of-copy : OfDone j k (resultOf (copied (j .closed) (points j)))
   of-copy =
       by-test (ltb k n)
       (λ t.
       let l = ltb-true k n t in
-      one-there j k _ _ (as-copied ∙ copy-told n k l) (rw segments l) (zero↔flagged _ (clear l)) (λ q. refl) (λ q. absurd (q z)))
+      one-there j k _ _ (as-copied ∙ copy-told n k l) (rw segments l) (zero↔flagged _ (clear l)) (itself l) (λ q. refl) (λ q. absurd (q z)))
       (λ t.
       let h = ltb-false k n t in
       none-there j k _ (as-copied ∙ copy-none n k h) (rw segments h))
@@ -331,6 +361,12 @@ module _ (j : Job) (k : ℕ) (a b : PlineVertex) (vs : List PlineVertex) (source
         λ f. flag-is ∙ sound .flagged k .0 (sound .invalid k .1 (w .invalid ∙ invalid↔flagged (w .move .reason) .1 f)),
       )
 
+      origin-is : Is (outcome j .buffers .origins) k (w .move .origin)
+      origin-is =
+          subst (λ (o : Outcome). Is (o .buffers .origins) k (w .move .origin)) (sym is)
+          (subst (λ (x : Drawing). Is (shown (places j) x (j .buffers) .origins) k (w .move .origin)) (sym same)
+          (shown-origin (places j) d (j .buffers) k (subst (λ os. Is os k (w .move .origin)) (sym (sound .origins)) (origin-at ks k (w .move) (w .kth)))))
+
       from-rows : Made (j .closed) (j .settings) a b vs (w .move) (w .move .origin)
       from-rows = made (j .closed) (j .settings) a b vs (w .move) (kept-mem moveEnd (close j) p ms (w .mem))
 
@@ -356,7 +392,7 @@ module _ (j : Job) (k : ℕ) (a b : PlineVertex) (vs : List PlineVertex) (source
       of-kth =
           let t = telling-is starts ends-at (w .move .reason) (w .move .origin) in
           one-there j k _ (tellingOf starts ends-at (w .move .reason) (w .move .origin)) (as-kept ∙ w .told) (rw kept-segments here)
-          (subst (λ (r : Reason). (getD (outcome j .buffers .flags) k 0 ≡ 1) ↔ Flagged (reasonNumber r)) (sym (t .1)) flag↔) (λ z. absurd (way .nonzero z)) (λ n. kth-kept)
+          (subst (λ (r : Reason). (getD (outcome j .buffers .flags) k 0 ≡ 1) ↔ Flagged (reasonNumber r)) (sym (t .1)) flag↔) (subst (Is (outcome j .buffers .origins) k) (sym (t .0)) origin-is) (λ z. absurd (way .nonzero z)) (λ n. kth-kept)
 
     of-kept : OfDone j k (resultOf (drawing j))
     of-kept =

@@ -86,6 +86,8 @@ pub record OfDone (j : Job) (k : ℕ) (r : RawOffsetResult) : Type 0 where
   pub there : k < segmentsIn r → (t : Telling) × (answered j k ≡ Told t)
   -- its flag in the job's own answer is set exactly for these reasons
   pub flag : (t : Telling) → answered j k ≡ Told t → (getD (outcome j .buffers .flags) k 0 ≡ 1) ↔ Flagged (reasonNumber (t .reason))
+  -- its origin is the one in the job's own buffer
+  pub origin : (t : Telling) → answered j k ≡ Told t → Is (outcome j .buffers .origins) k (t .origin)
   -- copied, exactly where the offset is zero; else the k-th kept move
   pub copied : (t : Telling) → answered j k ≡ Told t → T (eq (j .settings .offset) zero) → t ≡ tellingFor wholeStart wholeEnd Copied (Span (record { 0 = k }))
   pub kept : (t : Telling) → answered j k ≡ Told t → (T (eq (j .settings .offset) zero) → ⊥) → KthKept j k t
