@@ -1,6 +1,6 @@
-# A packed job, the program's answer to it, and both in words. The two files come as operands:
-#     part=job FILE (one line: the count of bytes, then the bytes as hexadecimal digits) part=answer FILE
-# and before them segment=N, where --why asks for output segment N.
+# A packed job, the program's answer to it, and both in words. The files come as operands:
+#     part=job FILE (one line: the count of bytes, then the bytes as hexadecimal digits) part=answer FILE part=origins FILE
+# and before them segment=N, where --why asks for output segment N. The origins are there where --show asks for the table.
 
 part == "job" {
     bytes = $1
@@ -25,6 +25,8 @@ part == "answer" && FNR > 1 {
     out_bulge[FNR - 2] = $3
     mark[FNR - 2] = $4
 }
+
+part == "origins" && FNR > 1 { origin[FNR - 2] = $0 }
 
 # the numbers of source vertex i, as doubles
 function x_of(i) { return substr(source, 48 * i + 1, 16) }

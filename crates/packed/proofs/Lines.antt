@@ -1,17 +1,20 @@
 -- Rows of stores that make up a line or a text, and how long lines are. Assumes nothing.
 use mathlib.Core.Path.{_≡_, refl, sym, ap, _∙_}
-use mathlib.Core.List.{List, [], _∷_, _++_}
+use mathlib.Core.List.{List, [], _∷_, _++_, append-assoc, append-nil}
 use mathlib.Core.Bool.{Bool}
 use Prim.Native.Nat.{ℕ, zero, suc, _+_, _*_, _<_, _≤_}
 use native.Mathlib.Nat.{zero-add}
 use native.Mathlib.Omega.{arith}
 use borrow.Author.Tests.{le-leb, lt-leb}
-use lib.ListN.{length, drop, length-append}
-use lib.Seq.{length-take-le, sets}
+use lib.ListN.{length, take, drop, getD, length-append}
+use lib.Seq.{length-take-le, sets, take-suc}
 use Rattle.io.specs.Counts.{Counts}
 use lib.Ieee.{Float, binary64, toBits}
 use Rattle.floats.proofs.Choice.{yes, no}
-use Rattle.packed.specs.Text.{_then_, decimalOf, hexOf, space, lineEnd, wordOf, headOf, lineOf, lineAt, linesOf, textOf, printedOf, threeOf, pairOf, toldOf}
+use Rattle.moves.specs.declared.Origin.{Origin}
+use Rattle.moves.specs.Origins.{originOf, originsIn}
+use Rattle.moves.proofs.Origins.{origins-append, origins-take}
+use Rattle.packed.specs.Text.{_then_, decimalOf, hexOf, space, lineEnd, wordOf, headOf, lineOf, lineAt, linesOf, printed, originLine, originLines, originsText, threeOf, pairOf, toldOf}
 use Rattle.packed.proofs.Writing.{sets-next, sets-front, place-next}
 use Rattle.packed.proofs.Digits.{length-digits, length-then}
 
@@ -31,13 +34,18 @@ two-rows l₀ xs ys {l₁} {l₂} {i} {j} e p q r h =
     let n : j ≡ length (xs ++ ys) = omega (arith, length-append xs ys) in
     shown (xs ++ ys) l₀ l₂ j n (sets-next l₀ 0 xs ys e s q ∙ sets-front l₀ (xs ++ ys) (omega arith) ∙ ap (λ k. (xs ++ ys) ++ drop k l₀) (sym n))
 
--- three rows, from some place on, and the place past them
+-- a row more, from some place on, and the place past it
+pub next-row : (l₀ : List ℕ) (at : ℕ) (xs ys : List ℕ) {l₁ l₂ : List ℕ} {i j : ℕ} →
+    l₁ ≡ sets l₀ at xs → i ≡ at + length xs → l₂ ≡ sets l₁ i ys → j ≡ i + length ys → (j ≡ at + length (xs ++ ys)) × (l₂ ≡ sets l₀ at (xs ++ ys))
+next-row l₀ at xs ys e p f q = (place-next at xs ys p q, sets-next l₀ at xs ys e p f)
+
+-- three rows
 three-rows : (l₀ : List ℕ) (at : ℕ) (xs ys zs : List ℕ) {l₁ l₂ l₃ : List ℕ} {i j k : ℕ} →
     l₁ ≡ sets l₀ at xs → i ≡ at + length xs → l₂ ≡ sets l₁ i ys → j ≡ i + length ys → l₃ ≡ sets l₂ j zs → k ≡ j + length zs →
     (k ≡ at + length (xs ++ ys ++ zs)) × (l₃ ≡ sets l₀ at (xs ++ ys ++ zs))
 three-rows l₀ at xs ys zs e p f q g r =
-    let s = place-next at xs ys p q in
-    (place-next at (xs ++ ys) zs s r, sets-next l₀ at (xs ++ ys) zs (sets-next l₀ at xs ys e p f) s g)
+    let s = next-row l₀ at xs ys e p f q in
+    next-row l₀ at (xs ++ ys) zs (s .1) (s .0) g r
 
 -- ---- the first line
 
@@ -125,13 +133,38 @@ module _ (number place connector source reason startRule endRule : ℕ) (s e : F
       let z : k + 34 ≡ k + length (pairOf s e) = omega arith in
       two-rows l₀ (threeOf number place connector ++ threeOf source reason startRule ++ (decimalOf endRule then space)) (pairOf s e) (rows .1) (rows .0 ∙ zero-add _) t z room
 
+-- ---- the origins of output segments
+
+origin-lines-append : (os ps : List Origin) → originLines (os ++ ps) ≡ originLines os ++ originLines ps
+unfolding originLines
+origin-lines-append [] ps = refl
+origin-lines-append (o ∷ os) ps = rw (origin-lines-append os ps) (sym (append-assoc (originLine o) (originLines os) (originLines ps)))
+
+-- the line of the next one
+pub origin-lines-next : (codes : List ℕ) (k : ℕ) → k < length codes →
+    originLines (take (suc k) (originsIn codes)) ≡ originLines (take k (originsIn codes)) ++ originLine (originOf (getD codes k 0))
+unfolding originsIn originLines
+origin-lines-next codes k h =
+    rw (← origins-take (suc k) codes, ← origins-take k codes, take-suc codes k 0 h, origins-append, origin-lines-append, append-nil)
+
+module _ (count : ℕ) (origins : List Origin) (l₀ : List ℕ) where
+  pub origin-rows : {l₁ l₂ l₃ : List ℕ} {i j k : ℕ} →
+      l₁ ≡ sets l₀ 0 (decimalOf 0 then space) → i ≡ 0 + length (decimalOf 0 then space) →
+      l₂ ≡ sets l₁ i (decimalOf count then lineEnd) → j ≡ i + length (decimalOf count then lineEnd) →
+      l₃ ≡ sets l₂ j (originLines (take count origins)) → k ≡ j + length (originLines (take count origins)) → k ≤ length l₀ →
+      Shown (originsText count origins) l₀ k l₃
+  unfolding originsText
+  origin-rows e p f q g r room =
+      let s = next-row l₀ 0 (decimalOf 0 then space) (decimalOf count then lineEnd) e p f q in
+      two-rows l₀ ((decimalOf 0 then space) ++ (decimalOf count then lineEnd)) (originLines (take count origins)) (s .1) (s .0 ∙ zero-add _) g r room
+
 -- ---- what is printed
 
-module _ (count : ℕ) (closed : Bool) (vertices : List Float) (flags : List ℕ) where
-  pub printed-text : count ≤ 1024 → textOf count closed vertices flags ≡ printedOf count closed vertices flags
-  unfolding printedOf
+module _ (count : ℕ) (text : List ℕ) where
+  pub printed-text : count ≤ 1024 → text ≡ printed count text
+  unfolding printed
   printed-text h = yes _ _ _ (le-leb _ _ h) refl
 
-  pub printed-none : 1024 < count → [] ≡ printedOf count closed vertices flags
-  unfolding printedOf
+  pub printed-none : 1024 < count → [] ≡ printed count text
+  unfolding printed
   printed-none h = no _ _ _ (lt-leb _ _ h) refl

@@ -6,14 +6,20 @@ use Prim.Native.Nat.{ℕ}
 use lib.ListN.{replicate}
 use lib.Ieee.{Float, binary64, ofBits, toBits}
 use Rattle.floats.specs.Choice.{when_give_else_, _and_}
+use Rattle.moves.specs.declared.Origin.{Origin}
+use Rattle.moves.specs.declared.Origin.the-variants.{Span, Connector}
 use Rattle.words.specs.Words.{bigEndian, numberAt}
 use Rattle.packed.specs.declared.unpacked.Packed.the-variants.{Job}
 use Rattle.packed.specs.Packed.{headerOf, closedOf, zeroOf, countOf, offsetOf, epsOf, numbersOf, sourceOf, wellFormed, packedOf, decoded, decodedOf}
-use Rattle.packed.specs.Text.{ascii, placesOf, decimalOf, hexOf, refusalOf, headOf, markOf, lineOf, lineAt, linesOf, textOf, printedOf, threeOf, pairOf, toldOf}
+use Rattle.packed.specs.Text.{ascii, placesOf, decimalOf, hexOf, refusalOf, headOf, markOf, lineOf, lineAt, linesOf, textOf, printed, printedOf, originLine, originLines, originsText, threeOf, pairOf, toldOf}
 
 -- all that the samples look through
+unfoldable texts : Unit {0}
+unfolding when_give_else_ _and_ toBits placesOf decimalOf hexOf refusalOf headOf markOf lineOf lineAt linesOf textOf printed originLine originLines originsText threeOf pairOf toldOf
+texts = tt
+
 unfoldable pub opened : Unit {0}
-unfolding when_give_else_ _and_ ofBits toBits bigEndian numberAt headerOf closedOf zeroOf countOf offsetOf epsOf numbersOf sourceOf wellFormed packedOf decodedOf placesOf decimalOf hexOf refusalOf headOf markOf lineOf lineAt linesOf textOf printedOf threeOf pairOf toldOf
+unfolding texts ofBits bigEndian numberAt headerOf closedOf zeroOf countOf offsetOf epsOf numbersOf sourceOf wellFormed packedOf decodedOf
 opened = tt
 
 abbrev pub numbers : List ℕ → List Float
@@ -70,6 +76,25 @@ heads = refl
 pub refusals : refusalOf 7 0 ∷ refusalOf 3 513 ∷ refusalOf 4294967295 4294967295 ∷ [] ≡ ascii "7 0\n" ∷ ascii "3 513\n" ∷ ascii "4294967295 4294967295\n" ∷ []
 unfolding opened
 refusals = refl
+
+-- 02's 2026-09: the sixth row's three segments, and an origin more, which is not printed; none; and the largest number that an origin can have
+abbrev span : ℕ → Origin
+span i = Span (record { 0 = i })
+
+abbrev connector : ℕ → Origin
+connector i = Connector (record { 0 = i })
+
+pub origins :
+    originsText 3 (span 0 ∷ connector 0 ∷ span 1 ∷ span 2 ∷ [])
+    ∷ originsText 0 (span 0 ∷ [])
+    ∷ originsText 2 (connector 10 ∷ span 2147483647 ∷ [])
+    ∷ []
+    ≡ ascii "0 3\nspan 0\nconnector 0\nspan 1\n"
+    ∷ ascii "0 0\n"
+    ∷ ascii "0 2\nconnector 10\nspan 2147483647\n"
+    ∷ []
+unfolding opened
+origins = refl
 
 -- the closing span of the square of side 4 at offset 3, turned back from 0.75 to 0.25; and the largest numbers
 pub tellings :

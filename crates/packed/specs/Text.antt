@@ -5,10 +5,12 @@ use Prim.Native.String.{String, [] as ε, _∷_ as _◂_}
 use mathlib.Core.List.{List, [], _∷_, _++_}
 use mathlib.Core.Bool.{Bool, not}
 use lib.Dec.{eqb, ltb, leb}
-use lib.ListN.{getD}
+use lib.ListN.{getD, take}
 use lib.Ieee.{Float, binary64, toBits, nan}
 use Rattle.floats.specs.Choice.{when_give_else_, _and_}
 use Rattle.io.specs.Digits.{digits}
+use Rattle.moves.specs.declared.Origin.{Origin}
+use Rattle.moves.specs.declared.Origin.the-variants.{Span, Connector}
 
 -- a text's bytes
 abbrev pub ascii : String → List ℕ
@@ -72,8 +74,24 @@ unfoldable pub textOf : ℕ → Bool → List Float → List ℕ → List ℕ
 textOf count closed vertices flags = headOf count closed ++ linesOf count closed vertices flags count
 
 -- 512 closed vertices are offset to 1024 at most: of more than that nothing is printed
-unfoldable pub printedOf : ℕ → Bool → List Float → List ℕ → List ℕ
-printedOf count closed vertices flags = when leb count 1024 give textOf count closed vertices flags else []
+unfoldable pub printed : ℕ → List ℕ → List ℕ
+printed count text = when leb count 1024 give text else []
+
+abbrev pub printedOf : ℕ → Bool → List Float → List ℕ → List ℕ
+printedOf count closed vertices flags = printed count (textOf count closed vertices flags)
+
+-- 02's 2026-09: an output segment's line is its origin, span or connector, and the number of the source segment
+unfoldable pub originLine : Origin → List ℕ
+originLine (Span i) = (ascii "span" then space) ++ (decimalOf (i .0) then lineEnd)
+originLine (Connector i) = (ascii "connector" then space) ++ (decimalOf (i .0) then lineEnd)
+
+unfoldable pub originLines : List Origin → List ℕ
+originLines [] = []
+originLines (o ∷ os) = originLine o ++ originLines os
+
+-- the first line is 0 and the count of output segments; then comes a line for each of them
+unfoldable pub originsText : ℕ → List Origin → List ℕ
+originsText count origins = (decimalOf 0 then space) ++ (decimalOf count then lineEnd) ++ originLines (take count origins)
 
 -- three numbers, a space after each
 unfoldable pub threeOf : ℕ → ℕ → ℕ → List ℕ

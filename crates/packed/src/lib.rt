@@ -4,6 +4,7 @@ mod text;
 mod unpacked;
 
 pub use text::put_answer;
+pub use text::put_origins;
 pub use text::put_refusal;
 pub use text::put_told;
 pub use unpacked::Packed;

@@ -5,11 +5,13 @@ ghost use mathlib.Core.List.{[], _∷_, _++_};
 ghost use mathlib.Core.Bool.{not};
 ghost use Prim.Native.Nat.{_+_, _*_, _≤_, _<_};
 ghost use lib.Dec.{eqb};
-ghost use lib.ListN.{length, drop};
+ghost use lib.ListN.{length, take, drop};
 ghost use lib.Seq.{sets};
 ghost use Rattle.floats.specs.Choice.{_and_};
 ghost use Rattle.io.specs.Counts.{Counts};
-ghost use Rattle.packed.specs.Text.{_then_, decimalOf, hexOf, lineEnd, lineOf, markOf, linesOf, wordOf, headOf, refusalOf, printedOf, threeOf, pairOf, toldOf};
+ghost use Rattle.moves.specs.Origins.{originsIn};
+ghost use Rattle.packed.specs.Text.{_then_, decimalOf, hexOf, lineEnd, lineOf, markOf, linesOf, wordOf, headOf, refusalOf, printed, printedOf, originLine, originLines, originsText, threeOf, pairOf, toldOf};
+use moves::Origin;
 
 // A refusal: its number and its place. Answers the length of the text.
 pub fn put_refusal(number: u32, place: u32, out: &mut [u8; 65536]) -> usize
@@ -169,6 +171,55 @@ fn put_mark(mark: u8, out: &mut [u8], at: usize)
 {
     out[at] = mark;
     out[at + 1] = b'\n';
+}
+
+// The origins of the output segments: a line for their count, and a line for each. Answers the length of the text: 0,
+// with nothing written, where there are more segments than a packed job's answer can have.
+pub fn put_origins(count: usize, origins: &[u32; 1024], out: &mut [u8; 65536]) -> usize
+    ensures { λ r. ⌜ Counts r (now (out .exit)) ⌝ }
+    ensures { λ r. ⌜ r ≡ length (printed count (originsText count (originsIn (now (origins .entry))))) ⌝ }
+    ensures { λ r. ⌜ now (out .exit) ≡ printed count (originsText count (originsIn (now (origins .entry)))) ++ drop r (now (out .entry)) ⌝ }
+{
+    if count > 1024 {
+        return 0;
+    }
+    let done = put_decimal(0, b' ', out, 0);
+    let at = put_decimal(count as u64, b'\n', out, done);
+    put_origin_lines(count, origins, out, at)
+}
+
+// The lines of the first `count` origins. Answers the place past them.
+fn put_origin_lines(count: usize, origins: &[u32], out: &mut [u8], at: usize) -> usize
+    requires { ⌜ count ≤ length (now origins) ⌝ }
+    requires { ⌜ at + 31 * count ≤ length (now out) ⌝ }
+    ensures { λ r. ⌜ r ≡ at + length (originLines (take count (originsIn (now (origins .entry))))) ⌝ }
+    ensures { λ r. ⌜ r ≤ at + 31 * count ⌝ }
+    ensures { λ _. ⌜ now (out .exit) ≡ sets (now (out .entry)) at (originLines (take count (originsIn (now (origins .entry))))) ⌝ }
+{
+    let mut end = at;
+    for i in 0..count {
+        end = put_origin(Origin::of_code(origins[i]), out, end);
+    }
+    end
+}
+
+// The line of one output segment. Answers the place past it.
+fn put_origin(origin: Origin, out: &mut [u8], at: usize) -> usize
+    requires { ⌜ at + 31 ≤ length (now out) ⌝ }
+    ensures { λ r. ⌜ r ≡ at + length (originLine origin) ⌝ }
+    ensures { λ r. ⌜ r ≤ at + 31 ⌝ }
+    ensures { λ _. ⌜ now (out .exit) ≡ sets (now (out .entry)) at (originLine origin) ⌝ }
+{
+    match origin {
+        Origin::Span(source) => {
+            put(b"span", b' ', out, at);
+            put_decimal(source.0 as u64, b'\n', out, at + 5)
+        }
+        Origin::Connector(source) => {
+            put(b"connector", b' ', out, at);
+            put_decimal(source.0 as u64, b'\n', out, at + 10)
+        }
+    }
 }
 
 // The bits of x and the byte after them.

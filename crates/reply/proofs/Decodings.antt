@@ -14,16 +14,17 @@ use Rattle.packed.specs.declared.unpacked.Packed.the-variants.{Job, Malformed}
 use Rattle.packed.specs.Packed.{decoded, decodedOf}
 use Rattle.packed.specs.Text.{refusalOf}
 use Rattle.packed.proofs.Bytes.{decoded-none, decoded-well, decoded-parts, decoded-numbers}
-use Rattle.reply.specs.Reply.{blank, answerText, outcomeOf, replyOf}
+use Rattle.reply.specs.Reply.{blank, answerText, outcomeOf, replyBy}
+use Rattle.reply.specs.declared.Asked.{Asked}
 
-module _ (bytes : List ℕ) (old : List Float) {p : Packed} {s : List Float} (e : decoded p s ≡ decodedOf bytes old) where
-  pub refused : p ≡ Malformed → replyOf bytes ≡ refusalOf (numberOf Refusal.Malformed) (placeOf Refusal.Malformed)
-  unfolding replyOf
+module _ (asked : Asked) (bytes : List ℕ) (old : List Float) {p : Packed} {s : List Float} (e : decoded p s ≡ decodedOf bytes old) where
+  pub refused : p ≡ Malformed → replyBy asked bytes ≡ refusalOf (numberOf Refusal.Malformed) (placeOf Refusal.Malformed)
+  unfolding replyBy
   refused m = sym (no _ _ _ (decoded-none bytes old e m) refl)
 
   pub worked : {closed : Bool} {v : ℕ} {offset ε : Float} → p ≡ Job closed v offset ε
-      → replyOf bytes ≡ answerText (jobOf (take (3 * v) s) closed (record { offset = offset; eps = ε }) blank)
-  unfolding replyOf outcomeOf
+      → replyBy asked bytes ≡ answerText asked (jobOf (take (3 * v) s) closed (record { offset = offset; eps = ε }) blank)
+  unfolding replyBy outcomeOf
   worked j =
       let is = decoded-parts bytes old e j in
       sym (yes _ _ _ (decoded-well bytes old e j) (rw (decoded-numbers bytes old e j, is .0, is .1 .1 .0, is .1 .1 .1)))

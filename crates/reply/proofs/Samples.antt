@@ -3,15 +3,16 @@ use mathlib.Core.Path.{_≡_, refl}
 use mathlib.Core.List.{List, [], _∷_, _++_}
 use Prim.Native.Nat.{ℕ}
 use lib.ListN.{replicate}
+use Rattle.moves.specs.Origins.{originOf, originsIn}
 use Rattle.job.proofs.PRows as Rows
 use Rattle.packed.specs.Text.{ascii}
 use Rattle.packed.proofs.Samples as Packed
 use Rattle.packed.proofs.Samples.{word, sixthText}
-use Rattle.reply.specs.Reply.{answerText, outcomeOf, replyOf}
+use Rattle.reply.specs.Reply.{doneText, answerText, outcomeOf, replyBy, replyOf, originsReplyOf}
 
 -- all that the samples look through
 unfoldable opened : Unit {0}
-unfolding Rows.reckoned Rows.joined Rows.judged Rows.walked Rows.laid Packed.opened answerText outcomeOf replyOf
+unfolding Rows.reckoned Rows.joined Rows.judged Rows.walked Rows.laid Packed.opened doneText answerText outcomeOf replyBy originsIn originOf
 opened = tt
 
 -- the first 16 bits, the offset, ε = 1e-5, and the numbers of the vertices
@@ -41,6 +42,13 @@ line = nought ++ nought ++ nought ++ four ++ nought ++ nought
 pub sixth-row : replyOf (packedJob 0 3 two (line ++ four ++ one ++ nought)) ≡ sixthText
 unfolding opened
 sixth-row = refl
+
+-- 02's 2026-09: the origins of its segments; of a closed drawing of one line, which has four; and of a job that is refused
+pub origins :
+    originsReplyOf (packedJob 0 3 two (line ++ four ++ one ++ nought)) ∷ originsReplyOf (packedJob 0x80 2 one line) ∷ originsReplyOf (packedJob 0 2 endless line) ∷ []
+    ≡ ascii "0 3\nspan 0\nconnector 0\nspan 1\n" ∷ ascii "0 4\nspan 0\nconnector 0\nspan 1\nconnector 1\n" ∷ ascii "3 2\n" ∷ []
+unfolding opened
+origins = refl
 
 -- No. 3 at the second vertex, and at the offset; No. 5 at the second vertex; and no job: a byte more, a zero bit, 513 vertices, nothing at all
 pub refusals :

@@ -1,4 +1,4 @@
--- What the code's two texts are of a job: the drawing, where it is done, and else the refusal. A packed job never has more than 1024 vertices to print. Assumes nothing.
+-- What the code's two texts are of a job: what is asked, where it is done, and else the refusal. A packed job never has more than 1024 vertices to print. Assumes nothing.
 use mathlib.Core.Path.{_≡_, sym, ap, _∙_}
 use mathlib.Core.Bool.{Bool}
 use mathlib.Core.List.{List}
@@ -9,38 +9,55 @@ use lib.ListN.{length}
 use lib.Ieee.{Float}
 use Rattle.segments.specs.declared.Settings.{Settings}
 use Rattle.floats.proofs.Choice.{yes, no}
+use Rattle.source.specs.Source.{segmentsOf}
 use Rattle.source.proofs.Segments.{segments-most}
+use Rattle.moves.specs.declared.Origin.{Origin}
 use Rattle.moves.specs.declared.RawOffsetResult.{RawOffsetResult}
 use Rattle.sheet.specs.Buffers.{Buffers}
 use Rattle.job.specs.declared.RawOffsetAnswer.{RawOffsetAnswer}
 use Rattle.job.specs.Job.{Outcome, number, place, result, ending, jobOf}
 use Rattle.job.specs.Rows.{Job}
 use Rattle.job.proofs.Fits.{vertices-fit}
-use Rattle.packed.specs.Text.{refusalOf, printedOf}
+use Rattle.packed.specs.Text.{refusalOf, textOf, originsText, printed}
 use Rattle.packed.proofs.Lines.{printed-text}
-use Rattle.reply.specs.Reply.{blank, answerText}
+use Rattle.reply.specs.declared.Asked.{Asked}
+use Rattle.reply.specs.declared.Asked.the-variants.{Drawing, Origins}
+use Rattle.reply.specs.Reply.{blank, doneText, answerText}
+
+-- ---- what is printed of a job that is done
+
+module _ (r : RawOffsetResult) (vertices : List Float) (flags : List ℕ) (origins : List Origin) (few : r .vertices ≤ 1024) where
+  pub drawing-printed : printed (r .vertices) (textOf (r .vertices) (r .closed) vertices flags) ≡ doneText Drawing r vertices flags origins
+  unfolding doneText
+  drawing-printed = sym (printed-text _ _ few)
+
+  pub origins-printed : {n : ℕ} → n ≡ segmentsOf (r .closed) (r .vertices) → printed n (originsText n origins) ≡ doneText Origins r vertices flags origins
+  unfolding doneText
+  origins-printed {n} e =
+      let most = segments-most (r .closed) (r .vertices) in
+      sym (printed-text n (originsText n origins) (omega arith)) ∙ rw e
+
+-- ---- and of any
 
 -- the job over blank buffers
 abbrev pub blankJob : List Float → Bool → Settings → Job
 blankJob s closed σ = record { source = s; closed = closed; settings = σ; buffers = blank }
 
 module _ (s : List Float) (closed : Bool) (σ : Settings) where
-  pub few-printed : length s ≤ 1536 → result (jobOf s closed σ blank .answer) .vertices ≤ 1024
-  few-printed h =
-      let f = vertices-fit (blankJob s closed σ) in
-      let m = segments-most closed (length s / 3) in
-      omega arith
+  module _ {a : RawOffsetAnswer} {b : Buffers} (ends : ending a b ≡ jobOf s closed σ blank) where
+    pub few-printed : length s ≤ 1536 → {r : RawOffsetResult} → r ≡ result a → r .vertices ≤ 1024
+    few-printed h {r} e =
+        let f = vertices-fit (blankJob s closed σ) in
+        let m = segments-most closed (length s / 3) in
+        rw (e, ap (λ (o : Outcome). o .answer) ends) (omega arith)
 
-  module _ {a : RawOffsetAnswer} {b : Buffers} (ends : ending a b ≡ jobOf s closed σ blank) {n : ℕ} (numbered : n ≡ number a) where
-    pub done-text : length s ≤ 1536 → n ≡ 0 → {r : RawOffsetResult} → r ≡ result a
-        → answerText (jobOf s closed σ blank) ≡ printedOf (r .vertices) (r .closed) (b .vertices) (b .flags)
-    unfolding answerText
-    done-text h z {r} e =
-        let few : r .vertices ≤ 1024 = rw (e, ap (λ (o : Outcome). o .answer) ends) (few-printed h) in
-        sym (yes _ _ _ (eq-eqb _ _ (ap (λ (o : Outcome). number (o .answer)) (sym ends) ∙ sym numbered ∙ z)) (sym (printed-text _ _ _ _ few) ∙ rw (← ends, e)))
+    module _ (asked : Asked) {n : ℕ} (numbered : n ≡ number a) where
+      pub done-text : n ≡ 0 → {r : RawOffsetResult} → r ≡ result a → answerText asked (jobOf s closed σ blank) ≡ doneText asked r (b .vertices) (b .flags) (b .origins)
+      unfolding answerText
+      done-text z {r} e = sym (yes _ _ _ (eq-eqb _ _ (ap (λ (o : Outcome). number (o .answer)) (sym ends) ∙ sym numbered ∙ z)) (rw (← ends, e)))
 
-    pub refusal-text : (n ≡ 0 → ⊥) → {k : ℕ} → k ≡ place a → answerText (jobOf s closed σ blank) ≡ refusalOf n k
-    unfolding answerText
-    refusal-text z {k} e =
-        let not-done : number (jobOf s closed σ blank .answer) ≡ 0 → ⊥ = λ q. z (numbered ∙ ap (λ (o : Outcome). number (o .answer)) ends ∙ q) in
-        sym (no _ _ _ (ne-eqb _ _ not-done) (rw (← ends, ← numbered, ← e)))
+      pub refusal-text : (n ≡ 0 → ⊥) → {k : ℕ} → k ≡ place a → answerText asked (jobOf s closed σ blank) ≡ refusalOf n k
+      unfolding answerText
+      refusal-text z {k} e =
+          let not-done : number (jobOf s closed σ blank .answer) ≡ 0 → ⊥ = λ q. z (numbered ∙ ap (λ (o : Outcome). number (o .answer)) ends ∙ q) in
+          sym (no _ _ _ (ne-eqb _ _ not-done) (rw (← ends, ← numbered, ← e)))

@@ -1,27 +1,38 @@
--- What `rawoffset` writes for the bytes that it reads (01 §5): the job that they hold, worked over blank buffers, and its answer as text. Definitions only.
+-- What `rawoffset` (01 §5) and `raworigins` (02's 2026-09) write for the bytes that they read: the job that these hold, worked over blank buffers, and its answer as text. Definitions only.
 use Prim.Native.Nat.{ℕ}
 use mathlib.Core.List.{List}
 use lib.Dec.{eqb}
 use lib.ListN.{replicate}
+use lib.Ieee.{Float}
 use Rattle.floats.specs.Binary64.{zero}
 use Rattle.floats.specs.Choice.{when_give_else_}
 use Rattle.segments.specs.declared.Settings.{Settings}
 use Rattle.refusals.specs.declared.Refusal.the-variants.{Malformed}
 use Rattle.refusals.specs.Table.{numberOf, placeOf}
+use Rattle.source.specs.Source.{segmentsOf}
+use Rattle.moves.specs.declared.Origin.{Origin}
+use Rattle.moves.specs.declared.RawOffsetResult.{RawOffsetResult}
+use Rattle.moves.specs.Origins.{originsIn}
 use Rattle.sheet.specs.Buffers.{Buffers, buffers}
 use Rattle.job.specs.Job.{Outcome, number, place, result, jobOf}
 use Rattle.packed.specs.Packed.{wellFormed, sourceOf, closedOf, offsetOf, epsOf}
-use Rattle.packed.specs.Text.{refusalOf, textOf}
+use Rattle.packed.specs.Text.{refusalOf, textOf, originsText}
+use Rattle.reply.specs.declared.Asked.{Asked}
+use Rattle.reply.specs.declared.Asked.the-variants.{Drawing, Origins}
 
 -- room for the offset of 512 vertices, closed: two vertices a segment
 abbrev pub blank : Buffers
-blank = buffers (replicate 3072 zero) (replicate 1024 0) (replicate 1024 0)
+blank = buffers (replicate 3072 zero) (replicate 1024 0) (replicate 1024 0) (originsIn (replicate 1024 0))
 
--- 01 §5: done, the drawing with its flags; refused, the number and the place
-unfoldable pub answerText : Outcome → List ℕ
-answerText o =
-    let r = result (o .answer) in
-    when eqb (number (o .answer)) 0 give textOf (r .vertices) (r .closed) (o .buffers .vertices) (o .buffers .flags) else
+-- done: the drawing with its flags (01 §5), or the origins of as many segments as its vertices have (02's 2026-09)
+unfoldable pub doneText : Asked → RawOffsetResult → List Float → List ℕ → List Origin → List ℕ
+doneText Drawing r vertices flags origins = textOf (r .vertices) (r .closed) vertices flags
+doneText Origins r vertices flags origins = originsText (segmentsOf (r .closed) (r .vertices)) origins
+
+-- refused: the number and the place
+unfoldable pub answerText : Asked → Outcome → List ℕ
+answerText asked o =
+    when eqb (number (o .answer)) 0 give doneText asked (result (o .answer)) (o .buffers .vertices) (o .buffers .flags) (o .buffers .origins) else
     refusalOf (number (o .answer)) (place (o .answer))
 
 abbrev pub settingsOf : List ℕ → Settings
@@ -32,5 +43,11 @@ unfoldable pub outcomeOf : List ℕ → Outcome
 outcomeOf bytes = jobOf (sourceOf bytes) (closedOf bytes) (settingsOf bytes) blank
 
 -- 01 §5: what is no packed job is refused as malformed
-unfoldable pub replyOf : List ℕ → List ℕ
-replyOf bytes = when wellFormed bytes give answerText (outcomeOf bytes) else refusalOf (numberOf Malformed) (placeOf Malformed)
+unfoldable pub replyBy : Asked → List ℕ → List ℕ
+replyBy asked bytes = when wellFormed bytes give answerText asked (outcomeOf bytes) else refusalOf (numberOf Malformed) (placeOf Malformed)
+
+abbrev pub replyOf : List ℕ → List ℕ
+replyOf bytes = replyBy Drawing bytes
+
+abbrev pub originsReplyOf : List ℕ → List ℕ
+originsReplyOf bytes = replyBy Origins bytes
