@@ -1,7 +1,7 @@
-// Whole jobs on stored rows, each with all that it leaves in the three lent buffers.
+// Whole jobs on stored rows, each with all that it leaves in the four lent buffers.
 // The input is words of eight bytes, highest byte first: the count of rows, then the rows. A row is
-// how many numbers the source has, closed, offset, tolerance, and how many numbers, flags and
-// indexes are lent; then the source. The jobs at the limit of vertices are made here. The stored
+// how many numbers the source has, closed, offset, tolerance, and how many numbers, flags, indexes
+// and origins are lent; then the source. The jobs at the limit of vertices are made here. The stored
 // output comes from 000 over 01's arithmetic in Rust (`oracle`, `samples`).
 use job::RawOffsetAnswer;
 use moves::RawOffsetResult;
@@ -19,6 +19,8 @@ const FLAG_BEFORE: u8 = 0xa5;
 
 const INDEX_BEFORE: u32 = 0xdead_beef;
 
+const ORIGIN_BEFORE: u32 = 0xcafe_f00d;
+
 // Drawings of more vertices are told by their checksums alone.
 const MOST_SHOWN: u32 = 16;
 
@@ -28,6 +30,7 @@ struct Lent {
     numbers: usize,
     flags: usize,
     indexes: usize,
+    origins: usize,
 }
 
 fn print_count(n: u64) {
@@ -46,7 +49,7 @@ fn mixed(sum: u64, word: u64) -> u64 {
     std::num::wrapping_add_u64(std::num::wrapping_add_u64(turned, sum), word)
 }
 
-// The first places as they stand, and a checksum of all; so for flags and indexes.
+// The first places as they stand, and a checksum of all; so for flags, and for indexes and origins.
 fn print_numbers(numbers: &[f64], shown: usize) {
     let mut sum = 0;
     for i in 0..numbers.len() {
@@ -75,14 +78,14 @@ fn print_flags(flags: &[u8], shown: usize) {
     print_sum(sum);
 }
 
-fn of_index(index: u32) -> u64 {
-    index as u64
+fn of_count(count: u32) -> u64 {
+    count as u64
 }
 
-fn print_indexes(indexes: &[u32], shown: usize) {
+fn print_counts(counts: &[u32], shown: usize) {
     let mut sum = 0;
-    for i in 0..indexes.len() {
-        let word = of_index(indexes[i]);
+    for i in 0..counts.len() {
+        let word = of_count(counts[i]);
         if i < shown {
             print_count(word);
         }
@@ -121,12 +124,19 @@ fn shown(answer: RawOffsetAnswer) -> RawOffsetResult {
     RawOffsetResult::empty()
 }
 
-fn print_outcome(answer: RawOffsetAnswer, vertices: &[f64], flags: &[u8], indexes: &[u32]) {
+fn print_outcome(
+    answer: RawOffsetAnswer,
+    vertices: &[f64],
+    flags: &[u8],
+    indexes: &[u32],
+    origins: &[u32],
+) {
     let drawn = shown(answer);
     print_answer(answer);
     print_numbers(vertices, 3 * (drawn.vertices as usize));
     print_flags(flags, segments_drawn(drawn) as usize);
-    print_indexes(indexes, drawn.indexes as usize);
+    print_counts(indexes, drawn.indexes as usize);
+    print_counts(origins, segments_drawn(drawn) as usize);
     print(b"\n");
 }
 
@@ -139,11 +149,13 @@ fn job(
     vertices: &mut [f64],
     flags: &mut [u8],
     indexes: &mut [u32],
+    origins: &mut [u32],
 ) {
     let count = least(lent.source, source.len());
     let numbers_lent = least(lent.numbers, vertices.len());
     let flags_lent = least(lent.flags, flags.len());
     let indexes_lent = least(lent.indexes, indexes.len());
+    let origins_lent = least(lent.origins, origins.len());
     let answer = job::create_raw_offset(
         &source[..count],
         closed,
@@ -151,8 +163,9 @@ fn job(
         &mut vertices[..numbers_lent],
         &mut flags[..flags_lent],
         &mut indexes[..indexes_lent],
+        &mut origins[..origins_lent],
     );
-    print_outcome(answer, vertices, flags, indexes);
+    print_outcome(answer, vertices, flags, indexes, origins);
 }
 
 // A stored row: at most 42 vertices.
@@ -161,6 +174,7 @@ fn row() {
     let mut vertices = [NUMBER_BEFORE; 256];
     let mut flags = [FLAG_BEFORE; 88];
     let mut indexes = [INDEX_BEFORE; 88];
+    let mut origins = [ORIGIN_BEFORE; 88];
     let count = read_word() as usize;
     let closed = read_word() == 1;
     let settings = Settings {
@@ -172,6 +186,7 @@ fn row() {
         numbers: read_word() as usize,
         flags: read_word() as usize,
         indexes: read_word() as usize,
+        origins: read_word() as usize,
     };
     words::read_numbers(count, &mut source);
     job(
@@ -182,6 +197,7 @@ fn row() {
         &mut vertices,
         &mut flags,
         &mut indexes,
+        &mut origins,
     );
 }
 
@@ -204,12 +220,14 @@ fn long(numbers: usize, closed: bool) {
     let mut vertices = [NUMBER_BEFORE; 24579];
     let mut flags = [FLAG_BEFORE; 8193];
     let mut indexes = [INDEX_BEFORE; 8193];
+    let mut origins = [ORIGIN_BEFORE; 8193];
     zigzag(&mut source);
     let lent = Lent {
         source: numbers,
         numbers: 24576,
         flags: 8192,
         indexes: 8192,
+        origins: 8192,
     };
     job(
         lent,
@@ -222,6 +240,7 @@ fn long(numbers: usize, closed: bool) {
         &mut vertices,
         &mut flags,
         &mut indexes,
+        &mut origins,
     );
 }
 

@@ -3,17 +3,17 @@ use Prim.Native.Nat.{_≤_, _-_}
 use lib.ListN.{length}
 use borrow.Author.Needs.{needs}
 use native.Mathlib.Omega.{arith}
-use Rattle.jobs_main.proofs.print_indexes.Statement.{statement}
-use Rattle.jobs_main.proofs.print_indexes.Tie as tie
+use Rattle.jobs_main.proofs.print_counts.Statement.{statement}
+use Rattle.jobs_main.proofs.print_counts.Tie as tie
 
 abbrev Inv-loop : tie.InvT-loop
-Inv-loop indexes shown sum₀ i₀ i-end sum i = (i ≤ i-end) × (i-end ≤ length indexes)
+Inv-loop counts shown sum₀ i₀ i-end sum i = (i ≤ i-end) × (i-end ≤ length counts)
 
 abbrev μ-loop : tie.MeasureT-loop
-μ-loop indexes shown sum₀ i₀ i-end sum i = i-end - i
+μ-loop counts shown sum₀ i₀ i-end sum i = i-end - i
 
-pub print-indexes-spec : {M : Type 1} → statement M
-print-indexes-spec =
+pub print-counts-spec : {M : Type 1} → statement M
+print-counts-spec =
     tie.close
     (tie.spec
     Inv-loop
