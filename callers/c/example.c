@@ -1,4 +1,7 @@
-/* Offsets a corner whose second line is too short, and says which segment is invalid. */
+/*
+ * Offsets a corner whose second line is too short, and says which segment is invalid and which
+ * source segment it comes from.
+ */
 #include <stdio.h>
 
 #include "blidrosk.h"
@@ -15,10 +18,12 @@ int main(void)
     double vertices[3 * ROOM] = {0};
     uint8_t flags[ROOM] = {0};
     uint32_t indexes[ROOM] = {0};
+    uint32_t origins[ROOM] = {0};
     uint32_t answer[5] = {0};
 
     uint32_t number = blidrosk_raw_offset(source, sizeof source / sizeof *source, false, 2, 1e-5,
-                                          vertices, 3 * ROOM, flags, ROOM, indexes, ROOM, answer);
+                                          vertices, 3 * ROOM, flags, ROOM, indexes, ROOM, origins,
+                                          ROOM, answer);
     if (number != BLIDROSK_DONE) {
         printf("refused: number %u, place %u\n", (unsigned)number, (unsigned)answer[BLIDROSK_PLACE]);
         return 1;
@@ -34,7 +39,11 @@ int main(void)
             printf(", flag %u", (unsigned)flags[i]);
         printf("\n");
     }
-    for (uint32_t i = 0; i < answer[BLIDROSK_INDEXES]; i++)
-        printf("segment %u is invalid\n", (unsigned)indexes[i]);
+    for (uint32_t i = 0; i < answer[BLIDROSK_INDEXES]; i++) {
+        uint32_t origin = origins[indexes[i]];
+        printf("segment %u is invalid: the %s source segment %u\n", (unsigned)indexes[i],
+               blidrosk_origin_is_connector(origin) ? "connector after" : "span of",
+               (unsigned)blidrosk_origin_source(origin));
+    }
     return 0;
 }

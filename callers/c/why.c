@@ -1,7 +1,7 @@
 /*
  * Tells of each segment of an offset drawing what it is and why its flag is set or clear. For this
- * and other jobs it tests that the answer goes with the flag, that blidrosk_why writes all of its
- * answer, and that it changes nothing else.
+ * and other jobs it tests that the answer goes with the flag and the origin, that blidrosk_why
+ * writes all of its answer, and that it changes nothing else.
  */
 #include <stdio.h>
 
@@ -160,6 +160,13 @@ static bool rules_fit(const struct told *told)
            end <= BLIDROSK_PAST_END;
 }
 
+/* Whether the origin told is the one that the drawing has. */
+static bool origin_fits(const struct told *told, uint32_t origin)
+{
+    return told->answer[BLIDROSK_WHY_CONNECTOR] == blidrosk_origin_is_connector(origin) &&
+           told->answer[BLIDROSK_WHY_SOURCE] == blidrosk_origin_source(origin);
+}
+
 static struct told ask_flagged(const struct job *job, uint32_t segment, uint8_t flag)
 {
     struct told told = ask(job, segment);
@@ -198,15 +205,17 @@ static uint32_t ask_all(const struct job *job, bool print)
     double vertices[3 * ROOM] = {0};
     uint8_t flags[ROOM] = {0};
     uint32_t indexes[ROOM] = {0};
+    uint32_t origins[ROOM] = {0};
     uint32_t answer[5] = {0};
     blidrosk_raw_offset(job->source, job->len, job->closed, job->offset, job->eps, vertices,
-                        3 * ROOM, flags, ROOM, indexes, ROOM, answer);
+                        3 * ROOM, flags, ROOM, indexes, ROOM, origins, ROOM, answer);
     test(answer[BLIDROSK_NUMBER] == BLIDROSK_DONE, "the job was refused", job, 0);
     uint32_t count = answer[BLIDROSK_VERTICES];
     if (count > 0 && answer[BLIDROSK_CLOSED] == 0)
         count--;
     for (uint32_t i = 0; i < count; i++) {
         struct told told = ask_flagged(job, i, flags[i]);
+        test(origin_fits(&told, origins[i]), "another origin is told", job, i);
         if (print && !failed)
             print_told(&told, i, flags[i]);
     }

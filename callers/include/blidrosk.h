@@ -1,8 +1,9 @@
 /*
  * Blidrosk: the raw offset of a drawing of lines and arcs, for cutting tables.
  *
- * Two functions: blidrosk_raw_offset offsets a drawing and flags the invalid segments of the
- * output, and blidrosk_why tells of one output segment what it is and why its flag is set or clear.
+ * Three functions: blidrosk_raw_offset offsets a drawing, flags the invalid segments of the output
+ * and names the origin of each; blidrosk_why tells of one output segment what it is and why its
+ * flag is set or clear; blidrosk_part finds the output segments that belong to a source segment.
  * They keep nothing between calls, allocate nothing, and end at any numbers, NaN and infinities
  * included. Link libblidrosk.a, which tools/archive makes. Of the C library it takes memset, and
  * nothing else.
@@ -18,17 +19,24 @@
 extern "C" {
 #endif
 
-/* What became of a job. Where several refusals apply, the one with the lowest number is given. */
+/*
+ * What became of a job or a question. Where several refusals apply, the one with the lowest number
+ * is given. blidrosk_raw_offset refuses with 1 to 6, blidrosk_why with these but 4 and with 8, and
+ * blidrosk_part with 1 and 13.
+ */
 enum blidrosk_number {
     BLIDROSK_DONE = 0,       /* done */
-    BLIDROSK_RAGGED = 1,     /* source_len is no multiple of 3 */
+    BLIDROSK_RAGGED = 1,     /* source_len is no multiple of 3; in blidrosk_part, flags_len and
+                                origins_len differ */
     BLIDROSK_TOO_MANY = 2,   /* more than 4096 vertices */
     BLIDROSK_BAD_NUMBER = 3, /* a NaN, an infinity, or a number out of its range, at `place` */
-    BLIDROSK_NO_ROOM = 4,    /* a buffer is too short */
+    BLIDROSK_NO_ROOM = 4,    /* one of the four buffers is too short */
     BLIDROSK_REPEATED = 5,   /* joined vertices equal in x and in y, the earlier at `place` */
     BLIDROSK_NOT_FINITE = 6, /* the drawing came out with a NaN or an infinity */
     /* 7 is the program rawoffset's own */
-    BLIDROSK_NO_SUCH_SEGMENT = 8 /* blidrosk_why: the output has no segment of that number */
+    BLIDROSK_NO_SUCH_SEGMENT = 8, /* the output has no segment of that number */
+    /* 9 to 12 are none of these functions' */
+    BLIDROSK_NO_SUCH_SOURCE_SEGMENT = 13 /* the source has no segment of that number */
 };
 
 /* Where the five entries of blidrosk_raw_offset's `answer` stand. */
@@ -54,13 +62,20 @@ enum blidrosk_entry {
  *   flags, .._len         receives a byte for each output segment: 1 where it is invalid, else 0.
  *                         Segment i leaves vertex i; an open output has one segment fewer.
  *   indexes, .._len       receives the numbers of the invalid output segments, rising
+ *   origins, .._len       receives a number for each output segment, as under Origins
  *   answer                receives number, place, count of vertices, count of indexes, closed
  *
  * Lengths count elements, not bytes: vertices_len is in doubles.
  *
  * Room. Let n be the source's segments: its vertices where it is closed, one fewer where it is
- * open, none for fewer than two vertices. Needed are 2n vertices, thus 6n doubles, 2n flags and 2n
- * indexes.
+ * open, none for fewer than two vertices. Needed are 2n vertices, thus 6n doubles, 2n flags, 2n
+ * indexes and 2n origins.
+ *
+ * Origins. An output segment is a span, which is what is drawn of a source segment, or a connector.
+ * Source segment i leaves source vertex i. A connector belongs to the segment before it; one that
+ * belongs to the last segment closes the drawing. The origin of the span of segment i is the number
+ * 2i, and that of the connector after it 2i + 1: blidrosk_origin_is_connector and
+ * blidrosk_origin_source read it. Where the offset is zero, each segment is its own span.
  *
  * Place. Number 3: the first bad vertex, counted from 0; with v vertices, v stands for the offset
  * and v + 1 for eps. Number 5: the earlier vertex of the first such pair; v - 1 for last to first.
@@ -82,24 +97,31 @@ enum blidrosk_entry {
  *   - the same closed: the joins with the closing segment leave 9.975e-6. eps 1e-5 gives 0
  *     vertices, eps 1e-6 the circle.
  *
- * Buffers. Refusals 1 to 5 change none of the three, and neither does a source of fewer than two
- * vertices, whose answer is an empty open drawing. Otherwise the first 2n vertices, flags and
- * indexes are set: what is not drawn there is zero, and after refusal 6 all of it is. Places from
- * 2n on never change.
+ * Buffers. Refusals 1 to 5 change none of the four, and neither does a source of fewer than two
+ * vertices, whose answer is an empty open drawing. Otherwise the first 2n vertices, flags, indexes
+ * and origins are set: what is not drawn there is zero, and after refusal 6 all of it is. Places
+ * from 2n on never change. A zero among the origins is the number of the span of segment 0, so only
+ * the count of segments tells an origin from what is not drawn.
  *
  * What a caller owes, and no more:
  *   - each pointer is aligned for its type, and stays good for as many elements as its length says
  *     (five for answer) until the call returns: for source to read, for the others to read and
  *     write, with no other thread writing there. Every element holds a value when the call begins,
  *     as after calloc. No list takes more than PTRDIFF_MAX bytes.
- *   - vertices, flags, indexes and answer overlap neither each other nor source
+ *   - vertices, flags, indexes, origins and answer overlap neither each other nor source
  *   - a list of length 0 may have any pointer, null too. answer has always five places.
  * Everything about the numbers is tested, and answered by a refusal.
  */
 uint32_t blidrosk_raw_offset(const double *source, size_t source_len, bool closed, double offset,
                              double eps, double *vertices, size_t vertices_len, uint8_t *flags,
                              size_t flags_len, uint32_t *indexes, size_t indexes_len,
-                             uint32_t answer[5]);
+                             uint32_t *origins, size_t origins_len, uint32_t answer[5]);
+
+/* Whether an origin is a connector's; otherwise it is a span's. */
+static inline bool blidrosk_origin_is_connector(uint32_t origin) { return origin % 2 == 1; }
+
+/* The source segment of an origin: its span, or the connector after it. */
+static inline uint32_t blidrosk_origin_source(uint32_t origin) { return origin / 2; }
 
 /* Why the flag of an output segment is set or clear. It is set for 2, 3 and 7 to 11. */
 enum blidrosk_reason {
@@ -140,15 +162,13 @@ enum blidrosk_why_entry {
 /*
  * Tells of output segment `segment` of a job what it is and why its flag is set or clear. Returns
  * the number of the answer, which is answer[0] too. Source, closed, offset and eps are those of
- * blidrosk_raw_offset, which would store that segment's flag in flags[segment].
+ * blidrosk_raw_offset, which would store that segment's flag in flags[segment], and in
+ * origins[segment] the same origin that is told here in two entries.
  *
  *   segment    the number of an output segment, from 0
  *   answer     receives seven numbers, as enum blidrosk_why_entry says
  *   params     receives, where the reason is 2, how far along its segment the span starts and ends:
  *              0 is the segment's start and 1 its end. Else both are 0.
- *
- * Source segment i leaves source vertex i. A connector belongs to the segment before it; one that
- * belongs to the last segment closes the drawing.
  *
  * Refusals are those of blidrosk_raw_offset but 4, since no buffer is lent, and in the same order;
  * then 8 where the output has no such segment, as for a source of fewer than two vertices. After a
@@ -160,6 +180,45 @@ enum blidrosk_why_entry {
  */
 uint32_t blidrosk_why(const double *source, size_t source_len, bool closed, double offset,
                       double eps, uint32_t segment, uint32_t answer[7], double params[2]);
+
+/* Where the four entries of blidrosk_part's `answer` stand. */
+enum blidrosk_part_entry {
+    BLIDROSK_PART_NUMBER = 0, /* an enum blidrosk_number */
+    BLIDROSK_PART_PLACE = 1,  /* 0 */
+    BLIDROSK_PART_START = 2,  /* the part's first output segment; 0 where it is empty */
+    BLIDROSK_PART_LENGTH = 3  /* count of its segments; 0 where it is empty */
+};
+
+/*
+ * Finds the part of an output that belongs to a source segment: its span and the connector after
+ * it, as far as they were drawn. Returns the number of the answer, which is answer[0] too.
+ *
+ *   n                     the source's segments, as blidrosk_raw_offset counts them under Room
+ *   flags, .._len         the flags of the output's segments. Their values are not looked at.
+ *   origins, .._len       their origins. One that names a segment from n on is not refused.
+ *   source_segment        the number of a source segment, from 0
+ *   answer                receives four numbers, as enum blidrosk_part_entry says
+ *
+ * The part is the first unbroken row of lent segments whose origins name source_segment, or it is
+ * empty: then start and length are 0. Over the segments of a job that is done no other row is such,
+ * so the part is all that the source segment has; with an offset of zero it is one segment.
+ *
+ * Lend the output's own segments: as many as it has vertices where it is closed, one fewer where it
+ * is open, and none where it has no vertices. What blidrosk_raw_offset leaves past them is zero,
+ * which cannot be told from a span of segment 0. Of open (0, 0) (1e-6, 0) (4, 0), offset 1, eps
+ * 1e-5, nothing is drawn of segment 0: over the output's one segment its part is empty; over all 2n
+ * places it would be the three past that segment.
+ *
+ * Refusals: 1 where flags_len and origins_len differ; then 13 where source_segment is not below n,
+ * so with n = 0 always. After either the part is empty. No origin has a source segment from
+ * 2147483648 on: below n, its part is empty. Output segments are numbered by 32 bits: of longer
+ * lists, the first 4294967295 are looked at.
+ *
+ * A caller owes what blidrosk_raw_offset asks: flags and origins are good for as many elements as
+ * their lengths say to read, answer for four to read and write, and answer overlaps neither.
+ */
+uint32_t blidrosk_part(uint32_t n, const uint8_t *flags, size_t flags_len, const uint32_t *origins,
+                       size_t origins_len, uint32_t source_segment, uint32_t answer[4]);
 
 #ifdef __cplusplus
 }

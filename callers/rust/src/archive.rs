@@ -1,4 +1,4 @@
-//! The two functions of the archive, as `callers/include/blidrosk.h` declares them; a caller's
+//! The three functions of the archive, as `callers/include/blidrosk.h` declares them; a caller's
 //! duties stand there.
 
 /// Number, place, count of vertices, count of indexes, and 1 where the drawing is closed.
@@ -6,6 +6,9 @@ pub type Numbers = [u32; 5];
 
 /// Number, place, 1 for a connector, source segment, reason, and the rules at a span's two ends.
 pub type WhyNumbers = [u32; 7];
+
+/// Number, place, and where a part starts and how many segments it has.
+pub type PartNumbers = [u32; 4];
 
 unsafe extern "C" {
     pub fn blidrosk_raw_offset(
@@ -20,6 +23,8 @@ unsafe extern "C" {
         flags_len: usize,
         indexes: *mut u32,
         indexes_len: usize,
+        origins: *mut u32,
+        origins_len: usize,
         answer: *mut Numbers,
     ) -> u32;
 
@@ -32,5 +37,15 @@ unsafe extern "C" {
         segment: u32,
         answer: *mut WhyNumbers,
         params: *mut [f64; 2],
+    ) -> u32;
+
+    pub fn blidrosk_part(
+        n: u32,
+        flags: *const u8,
+        flags_len: usize,
+        origins: *const u32,
+        origins_len: usize,
+        source_segment: u32,
+        answer: *mut PartNumbers,
     ) -> u32;
 }

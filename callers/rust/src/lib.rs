@@ -14,8 +14,18 @@
 //! assert_eq!(drawing.indexes, [1]);
 //! ```
 //!
-//! [`why`](why()) tells of an output segment which source segment it belongs to, and why its flag is
-//! set or clear.
+//! Each output segment has an origin: the span of a source segment, or the connector after one.
+//! [`Drawing::part`] goes back, from a source segment to its part of the output.
+//!
+//! ```
+//! # use blidrosk::{Drawing, Origin};
+//! # let source = [0.0, 0.0, 0.0, 4.0, 0.0, 0.0, 4.0, 1.0, 0.0];
+//! # let drawing = Drawing::offset(&source, false, 2.0, 1e-5).expect("a good job");
+//! assert_eq!(drawing.origins[1], Origin::Connector(0));
+//! assert_eq!(drawing.part(0), Ok(0..2));
+//! ```
+//!
+//! [`why`](why()) tells of an output segment why its flag is set or clear.
 //!
 //! ```
 //! # let source = [0.0, 0.0, 0.0, 4.0, 0.0, 0.0, 4.0, 1.0, 0.0];
@@ -49,12 +59,18 @@
 //! ```
 
 mod archive;
+mod origin;
+mod part;
 mod refusal;
 mod why;
 
+use std::ops::Range;
+
 use archive::{Numbers, blidrosk_raw_offset};
+pub use origin::Origin;
+pub use part::part;
 pub use refusal::{Bad, Refusal};
-pub use why::{Origin, Reason, Rule, Why, why};
+pub use why::{Reason, Rule, Why, why};
 
 /// The most vertices that a source may have.
 pub const MOST_VERTICES: usize = 4096;
@@ -69,14 +85,27 @@ pub struct Drawn {
     pub closed: bool,
 }
 
+impl Drawn {
+    /// Count of segments, and so of flags and origins.
+    pub const fn segments(self) -> usize {
+        segments(self.vertices, self.closed)
+    }
+}
+
 pub type Answer = Result<Drawn, Refusal>;
 
-/// Offsets a drawing into the three buffers, each of which needs [`room`] places; a place in
+/// Offsets a drawing into the four buffers, each of which needs [`room`] places; a place in
 /// `vertices` is three numbers.
 ///
-/// `flags` receives a byte for each output segment, 1 where it is invalid, and `indexes` the
-/// numbers of the invalid ones. Places past the room never change, and on a refusal none does,
-/// save that [`Refusal::NotFinite`] leaves zeros in the room.
+/// `flags` receives a byte for each output segment, 1 where it is invalid, `indexes` the numbers of
+/// the invalid ones, and `origins` the [code](Origin::from_code) of each segment's origin. What is
+/// not drawn of the room is zero, and so is the code of a span of segment 0: the first
+/// [`Drawn::segments`] are drawn. Places past the room never change, and on a refusal none does, save
+/// that [`Refusal::NotFinite`] leaves zeros in the room.
+#[expect(
+    clippy::too_many_arguments,
+    reason = "they are those of the header for C"
+)]
 pub fn raw_offset(
     source: &[f64],
     closed: bool,
@@ -85,6 +114,7 @@ pub fn raw_offset(
     vertices: &mut [f64],
     flags: &mut [u8],
     indexes: &mut [u32],
+    origins: &mut [u32],
 ) -> Answer {
     let mut answer: Numbers = [0; 5];
     // SAFETY: each pointer goes with the length of its own slice, the answer has five places, and
@@ -102,6 +132,8 @@ pub fn raw_offset(
             flags.len(),
             indexes.as_mut_ptr(),
             indexes.len(),
+            origins.as_mut_ptr(),
+            origins.len(),
             &mut answer,
         );
     }
@@ -121,11 +153,16 @@ fn read([number, place, vertices, indexes, closed]: Numbers, source_vertices: us
 
 /// The places that each buffer needs for a source of so many vertices: two for each segment.
 pub const fn room(vertices: usize, closed: bool) -> usize {
-    if vertices < 2 {
-        return 0;
+    segments(vertices, closed).saturating_mul(2)
+}
+
+/// The segments of a drawing of so many vertices.
+pub const fn segments(vertices: usize, closed: bool) -> usize {
+    match vertices {
+        0 | 1 => 0,
+        _ if closed => vertices,
+        _ => vertices - 1,
     }
-    let segments = if closed { vertices } else { vertices - 1 };
-    segments.saturating_mul(2)
 }
 
 /// A drawing in vectors of its own.
@@ -137,17 +174,23 @@ pub struct Drawing {
     pub flags: Vec<u8>,
     /// The invalid segments, rising.
     pub indexes: Vec<u32>,
+    /// Where each segment comes from.
+    pub origins: Vec<Origin>,
     pub closed: bool,
+    /// Count of the source's segments.
+    pub source_segments: usize,
 }
 
 impl Drawing {
     /// Offsets a drawing, with as much room as it needs.
     pub fn offset(source: &[f64], closed: bool, offset: f64, eps: f64) -> Result<Self, Refusal> {
         // a longer source is refused before its room is looked at
-        let places = room((source.len() / 3).min(MOST_VERTICES), closed);
+        let source_vertices = (source.len() / 3).min(MOST_VERTICES);
+        let places = room(source_vertices, closed);
         let mut vertices = vec![0.0; 3 * places];
         let mut flags = vec![0; places];
         let mut indexes = vec![0; places];
+        let mut origins = vec![0; places];
         let drawn = raw_offset(
             source,
             closed,
@@ -156,16 +199,46 @@ impl Drawing {
             &mut vertices,
             &mut flags,
             &mut indexes,
+            &mut origins,
         )?;
-        let open_ends = usize::from(!drawn.closed);
         vertices.truncate(3 * drawn.vertices);
-        flags.truncate(drawn.vertices.saturating_sub(open_ends));
+        flags.truncate(drawn.segments());
         indexes.truncate(drawn.indexes);
+        origins.truncate(drawn.segments());
         Ok(Drawing {
             vertices,
             flags,
             indexes,
+            origins: origins.into_iter().map(Origin::from_code).collect(),
             closed: drawn.closed,
+            source_segments: segments(source_vertices, closed),
         })
+    }
+
+    /// The segments that belong to a source segment: its span and the connector after it, as far as
+    /// they were drawn. The range is empty where nothing was; a segment that the source does not
+    /// have is [`Refusal::NoSuchSourceSegment`].
+    ///
+    /// ```
+    /// use blidrosk::{Drawing, Refusal};
+    ///
+    /// // of a line shorter than the tolerance nothing is drawn
+    /// let source = [0.0, 0.0, 0.0, 1e-6, 0.0, 0.0, 4.0, 0.0, 0.0];
+    /// let drawing = Drawing::offset(&source, false, 1.0, 1e-5).expect("a good job");
+    /// assert_eq!(drawing.part(0), Ok(0..0));
+    /// assert_eq!(drawing.part(1), Ok(0..1));
+    /// assert_eq!(drawing.part(2), Err(Refusal::NoSuchSourceSegment));
+    /// ```
+    pub fn part(&self, source_segment: usize) -> Result<Range<usize>, Refusal> {
+        // A source has at most 4096 segments, so a number past 32 bits is none of them. An origin
+        // without a code, as no job draws, would leave fewer codes than flags.
+        let [n, asked] = [self.source_segments, source_segment]
+            .map(|number| u32::try_from(number).unwrap_or(u32::MAX));
+        let codes: Vec<u32> = self
+            .origins
+            .iter()
+            .filter_map(|origin| origin.code())
+            .collect();
+        part(n, &self.flags, &codes, asked)
     }
 }

@@ -8,7 +8,8 @@ use std::fmt;
 #[derive(Clone, Copy, Debug, PartialEq, Eq)]
 #[non_exhaustive]
 pub enum Refusal {
-    /// The source's length is no multiple of 3.
+    /// The source's length is no multiple of 3; for [`part`](crate::part()), flags and origins differ
+    /// in number.
     Ragged,
     /// The source has more than [`MOST_VERTICES`](crate::MOST_VERTICES) vertices.
     TooMany,
@@ -23,6 +24,8 @@ pub enum Refusal {
     NotFinite,
     /// The output has no segment of the number that [`why`](crate::why()) was asked for.
     NoSuchSegment,
+    /// The source has no segment of the number that [`part`](crate::part()) was asked for.
+    NoSuchSourceSegment,
 }
 
 /// Which number is bad.
@@ -46,7 +49,8 @@ impl Refusal {
             5 => Refusal::Repeated(place),
             6 => Refusal::NotFinite,
             8 => Refusal::NoSuchSegment,
-            _ => unreachable!("the archive answers no 7, and no number above 8"),
+            13 => Refusal::NoSuchSourceSegment,
+            _ => unreachable!("the archive answers 0 to 6, 8 and 13"),
         })
     }
 }
@@ -67,9 +71,9 @@ impl Bad {
 impl fmt::Display for Refusal {
     fn fmt(&self, f: &mut fmt::Formatter<'_>) -> fmt::Result {
         match self {
-            Refusal::Ragged => {
-                f.write_str("the source has numbers left over: a vertex is x, y and bulge")
-            }
+            Refusal::Ragged => f.write_str(
+                "numbers are left over: a vertex is x, y and bulge, and a segment has a flag and an origin",
+            ),
             Refusal::TooMany => f.write_str("the source has more than 4096 vertices"),
             Refusal::BadNumber(bad) => bad.fmt(f),
             Refusal::NoRoom => {
@@ -83,6 +87,7 @@ impl fmt::Display for Refusal {
             Refusal::NoSuchSegment => {
                 f.write_str("the offset drawing has no segment of that number")
             }
+            Refusal::NoSuchSourceSegment => f.write_str("the source has no segment of that number"),
         }
     }
 }

@@ -2,8 +2,8 @@
 
 use std::fmt;
 
-use crate::Refusal;
 use crate::archive::{WhyNumbers, blidrosk_why};
+use crate::{Origin, Refusal};
 
 /// What an output segment is, and why its flag is set or clear.
 #[derive(Clone, Copy, Debug, PartialEq)]
@@ -14,16 +14,6 @@ pub struct Why {
     pub start_rule: Option<Rule>,
     /// The same where its span ends.
     pub end_rule: Option<Rule>,
-}
-
-/// A piece of the output and the source segment that it belongs to: segment `i` leaves vertex `i`
-/// of the source.
-#[derive(Clone, Copy, Debug, PartialEq, Eq)]
-pub enum Origin {
-    /// What is drawn of this segment.
-    Span(usize),
-    /// What joins the span of this segment to the next. That of the last closes the drawing.
-    Connector(usize),
 }
 
 /// Why a flag is set or clear.
@@ -124,7 +114,7 @@ fn read(answer: WhyNumbers, params: [f64; 2], source_vertices: usize) -> Result<
     match Refusal::of(number, place as usize, source_vertices) {
         Some(refusal) => Err(refusal),
         None => Ok(Why {
-            origin: Origin::of(connector, segment as usize),
+            origin: origin_of(connector, segment as usize),
             reason: Reason::of(reason, params),
             start_rule: Rule::of(start),
             end_rule: Rule::of(end),
@@ -132,13 +122,11 @@ fn read(answer: WhyNumbers, params: [f64; 2], source_vertices: usize) -> Result<
     }
 }
 
-impl Origin {
-    fn of(connector: u32, segment: usize) -> Self {
-        match connector {
-            0 => Origin::Span(segment),
-            1 => Origin::Connector(segment),
-            _ => unreachable!("the archive tells of spans and connectors"),
-        }
+fn origin_of(connector: u32, segment: usize) -> Origin {
+    match connector {
+        0 => Origin::Span(segment),
+        1 => Origin::Connector(segment),
+        _ => unreachable!("the archive tells of spans and connectors"),
     }
 }
 
@@ -209,15 +197,6 @@ impl Rule {
             4 => Rule::PastEnd,
             _ => unreachable!("the archive tells rules 1 to 4"),
         })
-    }
-}
-
-impl fmt::Display for Origin {
-    fn fmt(&self, f: &mut fmt::Formatter<'_>) -> fmt::Result {
-        match self {
-            Origin::Span(i) => write!(f, "the span of source segment {i}"),
-            Origin::Connector(i) => write!(f, "the connector after source segment {i}"),
-        }
     }
 }
 

@@ -12,20 +12,22 @@ struct Buffers {
     vertices: Vec<f64>,
     flags: Vec<u8>,
     indexes: Vec<u32>,
+    origins: Vec<u32>,
 }
 
 impl Buffers {
-    fn marked(numbers: usize, flags: usize, indexes: usize) -> Self {
+    fn marked([numbers, flags, indexes, origins]: [usize; 4]) -> Self {
         Buffers {
             vertices: vec![-7.5; numbers],
             flags: vec![77; flags],
             indexes: vec![777; indexes],
+            origins: vec![7777; origins],
         }
     }
 
     /// So many places in each.
     fn of(places: usize) -> Self {
-        Buffers::marked(3 * places, places, places)
+        Buffers::marked([3 * places, places, places, places])
     }
 
     fn job(&mut self, source: &[f64], closed: bool, offset: f64, eps: f64) -> Answer {
@@ -37,6 +39,7 @@ impl Buffers {
             &mut self.vertices,
             &mut self.flags,
             &mut self.indexes,
+            &mut self.origins,
         )
     }
 }
@@ -116,15 +119,36 @@ fn ranges_include_their_limits() {
 
 #[test]
 fn room_one_short() {
-    let places = room(3, false);
-    assert_eq!(places, 4);
-    assert!(Buffers::of(places).job(&CORNER, false, 1.0, EPS).is_ok());
-    for (numbers, flags, indexes) in [(11, 4, 4), (12, 3, 4), (12, 4, 3), (0, 0, 0)] {
-        let mut buffers = Buffers::marked(numbers, flags, indexes);
-        let before = buffers.clone();
-        assert_eq!(buffers.job(&CORNER, false, 1.0, EPS), Err(Refusal::NoRoom));
-        assert_eq!(buffers, before);
+    for (closed, places) in [(false, 4), (true, 6)] {
+        assert_eq!(room(3, closed), places);
+        let needed = [3 * places, places, places, places];
+        for offset in [1.0, 0.0] {
+            let enough = Buffers::marked(needed).job(&CORNER, closed, offset, EPS);
+            assert!(enough.is_ok());
+            for buffer in 0..4 {
+                for lent in [needed[buffer] - 1, places / 2, 0] {
+                    let mut short = needed;
+                    short[buffer] = lent;
+                    let mut buffers = Buffers::marked(short);
+                    let before = buffers.clone();
+                    let answer = buffers.job(&CORNER, closed, offset, EPS);
+                    assert_eq!(answer, Err(Refusal::NoRoom), "{short:?}");
+                    assert_eq!(buffers, before);
+                }
+            }
+        }
     }
+}
+
+#[test]
+fn room_is_looked_at_after_the_numbers_and_before_the_points() {
+    let short = [12, 4, 4, 3];
+    let refused = |source: &[f64], eps| Buffers::marked(short).job(source, false, 1.0, eps);
+    let bad = Refusal::BadNumber(Bad::Eps);
+    assert_eq!(refused(&CORNER, 1.0), Err(bad));
+    let twice = with(CORNER, 7, 0.0);
+    assert_eq!(refused(&twice, EPS), Err(Refusal::NoRoom));
+    assert_eq!(refused(&CORNER[..8], EPS), Err(Refusal::Ragged));
 }
 
 #[test]
@@ -190,6 +214,7 @@ fn a_drawing_that_is_not_finite_leaves_zeros_in_the_room() {
     left.vertices[..3 * places].fill(0.0);
     left.flags[..places].fill(0);
     left.indexes[..places].fill(0);
+    left.origins[..places].fill(0);
     assert_eq!(buffers, left);
 }
 
@@ -202,6 +227,27 @@ fn what_is_done_stays_within_the_room() {
     assert_eq!(buffers.vertices[9..], [0.0, 0.0, 0.0, -7.5, -7.5, -7.5]);
     assert_eq!(buffers.flags, [0, 0, 0, 0, 77]);
     assert_eq!(buffers.indexes, [0, 0, 0, 0, 777]);
+    assert_eq!(buffers.origins, [0, 2, 0, 0, 7777]);
+}
+
+#[test]
+fn what_is_copied_stays_within_the_room() {
+    let places = room(3, true);
+    let mut buffers = Buffers::of(places + 1);
+    let drawn = buffers.job(&CORNER, true, -0.0, EPS).expect("a good job");
+    assert_eq!((drawn.vertices, drawn.indexes, drawn.closed), (3, 0, true));
+    assert_eq!(buffers.flags, [0, 0, 0, 0, 0, 0, 77]);
+    assert_eq!(buffers.origins, [0, 2, 4, 0, 0, 0, 7777]);
+}
+
+#[test]
+fn what_is_empty_leaves_zeros_in_the_room() {
+    let arc = [0.0, 0.0, 1.0, 4.0, 0.0, 0.0];
+    let mut buffers = Buffers::of(3);
+    let drawn = buffers.job(&arc, false, 3.0, EPS).expect("a good job");
+    assert_eq!((drawn.vertices, drawn.segments()), (0, 0));
+    assert_eq!(buffers.flags, [0, 0, 77]);
+    assert_eq!(buffers.origins, [0, 0, 7777]);
 }
 
 #[test]

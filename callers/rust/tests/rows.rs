@@ -1,6 +1,6 @@
 //! Drawings whose offset is known number by number.
 
-use blidrosk::Drawing;
+use blidrosk::{Drawing, Origin, why};
 
 const EPS: f64 = 1e-5;
 
@@ -10,8 +10,16 @@ fn straight(points: &[(f64, f64)]) -> Vec<f64> {
     points.iter().flat_map(|&(x, y)| [x, y, 0.0]).collect()
 }
 
+/// Its origins are those that are told of its segments.
+#[track_caller]
 fn offset(source: &[f64], closed: bool, offset: f64) -> Drawing {
-    Drawing::offset(source, closed, offset, EPS).expect("a good job")
+    let drawing = Drawing::offset(source, closed, offset, EPS).expect("a good job");
+    let told = |segment| why(source, closed, offset, EPS, segment as u32).expect("a segment");
+    let origins: Vec<Origin> = (0..drawing.flags.len())
+        .map(|segment| told(segment).origin)
+        .collect();
+    assert_eq!(drawing.origins, origins);
+    drawing
 }
 
 #[track_caller]

@@ -177,7 +177,7 @@ fn each_rule_of_a_trimmed_arc() {
 }
 
 #[test]
-fn reasons_go_with_the_flags_and_end_with_them() {
+fn reasons_go_with_the_flags_and_origins_and_end_with_them() {
     let part = [
         [-3.5, 0.0, 0.0],
         [20.0, 0.0, 0.0],
@@ -206,11 +206,17 @@ fn reasons_go_with_the_flags_and_end_with_them() {
     ] {
         for offset in [-3.0, -2.0, -0.5, 0.0, 0.5, 1.5, 2.0, 3.0] {
             for job in [open(offset, vertices), closed(offset, vertices)] {
-                let flags = job.drawing().flags;
-                for (segment, flag) in (0..).zip(&flags) {
-                    let invalid = job.told(segment).reason.is_invalid();
-                    assert_eq!(u8::from(invalid), *flag, "segment {segment} of {job:?}");
+                let Drawing { flags, origins, .. } = job.drawing();
+                for (segment, marked) in (0..).zip(flags.iter().zip(&origins)) {
+                    let told = job.told(segment);
+                    let invalid = u8::from(told.reason.is_invalid());
+                    assert_eq!(
+                        (&invalid, &told.origin),
+                        marked,
+                        "segment {segment} of {job:?}"
+                    );
                 }
+                assert_eq!(flags.len(), origins.len());
                 let past = flags.len() as u32;
                 assert_eq!(job.why(past), Err(Refusal::NoSuchSegment), "{job:?}");
             }
@@ -266,12 +272,13 @@ fn the_most_vertices_are_taken_and_one_more_is_not() {
         closed(-0.125, &zigzag(MOST_VERTICES)),
         open(-0.0, &zigzag(MOST_VERTICES)),
     ] {
-        let flags = job.drawing().flags;
+        let Drawing { flags, origins, .. } = job.drawing();
         let count = flags.len() as u32;
         assert!(count >= MOST_VERTICES as u32 - 1);
         for segment in [0, 1, count / 2, count - 2, count - 1] {
-            let invalid = job.told(segment).reason.is_invalid();
-            assert_eq!(u8::from(invalid), flags[segment as usize]);
+            let told = job.told(segment);
+            assert_eq!(told.origin, origins[segment as usize]);
+            assert_eq!(u8::from(told.reason.is_invalid()), flags[segment as usize]);
         }
         for segment in [count, count + 1, u32::MAX] {
             assert_eq!(job.why(segment), Err(Refusal::NoSuchSegment));
