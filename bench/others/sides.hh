@@ -23,7 +23,7 @@ class Proved : public Side {
 public:
     Proved(const Drawing &drawing, double offset)
         : closed(drawing.closed), offset(offset), eps(drawing.eps), room(2 * drawing.segments()), vertices(3 * room),
-          flags(room), indexes(room)
+          flags(room), indexes(room), origins(room)
     {
         for (const Vertex &v : drawing.vertices)
             source.insert(source.end(), {v.x, v.y, v.bulge});
@@ -33,7 +33,8 @@ public:
     {
         uint32_t number =
             blidrosk_raw_offset(source.data(), source.size(), closed, offset, eps, vertices.data(), vertices.size(),
-                                flags.data(), flags.size(), indexes.data(), indexes.size(), answer);
+                                flags.data(), flags.size(), indexes.data(), indexes.size(), origins.data(),
+                                origins.size(), answer);
         if (number != BLIDROSK_DONE)
             throw std::runtime_error("the stage refuses the job, number " + std::to_string(number));
     }
@@ -57,7 +58,7 @@ private:
     std::size_t room;
     std::vector<double> source, vertices;
     std::vector<uint8_t> flags;
-    std::vector<uint32_t> indexes;
+    std::vector<uint32_t> indexes, origins;
     uint32_t answer[5] = {};
 };
 

@@ -1,9 +1,12 @@
-//! The job of 01 section 1, as 02's 2026-02 amends it: refusals in their order, 000, and the three
-//! lent buffers.
+//! The job of 01 section 1, as 02's 2026-02 and 2026-09 amend it: refusals in their order, 000, and
+//! the four lent buffers.
+
+mod drawn;
 
 use crate::polyline::internal::raw_pline_offset::{RawOffsetResult, create_raw_offset};
 use crate::polyline::{PlineSource, PlineVertex, Polyline};
 use crate::stage::{Answer, Job, Lent};
+use drawn::{Drawn, Draws};
 
 const MOST_VERTICES: usize = 4096;
 
@@ -13,8 +16,17 @@ fn refused(number: u32, place: usize) -> Answer {
     [number, place as u32, 0, 0, 0]
 }
 
-/// Works one job on 000.
-pub fn job(job: &Job, mut lent: Lent) -> Answer {
+/// Works one job on 000, whose moves are counted for the origins.
+pub fn job(job: &Job, lent: Lent) -> Answer {
+    job_on::<Drawn>(job, lent)
+}
+
+/// The same with nothing counted, which leaves zeros for the origins: for timing 000.
+pub fn plain_job(job: &Job, lent: Lent) -> Answer {
+    job_on::<Polyline>(job, lent)
+}
+
+fn job_on<P: Draws>(job: &Job, mut lent: Lent) -> Answer {
     let v = job.source.len() / 3;
     if !job.source.len().is_multiple_of(3) {
         return refused(1, 0);
@@ -38,9 +50,9 @@ pub fn job(job: &Job, mut lent: Lent) -> Answer {
     {
         return refused(5, place);
     }
-    let drawn = create_raw_offset::<_, _, Polyline>(&pline, job.offset, job.eps);
+    let drawn = create_raw_offset::<_, _, P>(&pline, job.offset, job.eps);
     lent.clear(room);
-    if !drawn.polyline.vertices.iter().all(is_finite) {
+    if !drawn.polyline.vertices().iter().all(is_finite) {
         return refused(6, 0);
     }
     lent.fill(&drawn);
@@ -49,23 +61,25 @@ pub fn job(job: &Job, mut lent: Lent) -> Answer {
         0,
         drawn.polyline.vertex_count() as u32,
         drawn.invalid_segment_indexes.len() as u32,
-        drawn.polyline.is_closed.into(),
+        drawn.polyline.is_closed().into(),
     ]
 }
 
 impl Lent<'_> {
     fn holds(&self, room: usize) -> bool {
-        room <= self.vertices.len() / 3 && room <= self.flags.len() && room <= self.indexes.len()
+        let least = self.flags.len().min(self.indexes.len());
+        room <= least.min(self.origins.len()) && room <= self.vertices.len() / 3
     }
 
     fn clear(&mut self, room: usize) {
         self.vertices[..3 * room].fill(0.0);
         self.flags[..room].fill(0);
         self.indexes[..room].fill(0);
+        self.origins[..room].fill(0);
     }
 
-    fn fill(&mut self, drawn: &RawOffsetResult<Polyline>) {
-        for (place, vertex) in self.vertices.chunks_mut(3).zip(&drawn.polyline.vertices) {
+    fn fill<P: Draws>(&mut self, drawn: &RawOffsetResult<P>) {
+        for (place, vertex) in self.vertices.chunks_mut(3).zip(drawn.polyline.vertices()) {
             place.copy_from_slice(&[vertex.x, vertex.y, vertex.bulge]);
         }
         for (place, flag) in self.flags.iter_mut().zip(&drawn.invalid_segments) {
@@ -73,6 +87,9 @@ impl Lent<'_> {
         }
         for (place, index) in self.indexes.iter_mut().zip(&drawn.invalid_segment_indexes) {
             *place = *index as u32;
+        }
+        for (place, origin) in self.origins.iter_mut().zip(drawn.polyline.origins()) {
+            *place = *origin;
         }
     }
 }

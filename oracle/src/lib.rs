@@ -13,6 +13,7 @@ pub mod layers;
 pub mod newly;
 #[cfg(with_000)]
 pub mod packed;
+pub mod part;
 pub mod polyline;
 #[cfg(feature = "proved")]
 pub mod proved;
@@ -21,7 +22,7 @@ pub mod text;
 pub mod traced;
 
 #[cfg(with_000)]
-pub use job::job;
+pub use job::{job, plain_job};
 
 /// The exit status of a program of this package that was built without 000.
 pub const WITHOUT_000: i32 = 3;

@@ -4,8 +4,9 @@
 #[path = "../../callers/rust/src/archive.rs"]
 mod archive;
 
+use crate::part::{Output, PartAnswer};
 use crate::stage::{Answer, Job, Lent};
-use archive::{blidrosk_raw_offset, blidrosk_why};
+use archive::{blidrosk_part, blidrosk_raw_offset, blidrosk_why};
 use std::array;
 
 /// An answer that no job has.
@@ -21,6 +22,8 @@ pub type Function = unsafe extern "C" fn(
     *mut f64,
     usize,
     *mut u8,
+    usize,
+    *mut u32,
     usize,
     *mut u32,
     usize,
@@ -55,6 +58,8 @@ pub unsafe fn job_by(function: Function, job: &Job, lent: Lent) -> Answer {
             lent.flags.len(),
             lent.indexes.as_mut_ptr(),
             lent.indexes.len(),
+            lent.origins.as_mut_ptr(),
+            lent.origins.len(),
             &mut answer,
         )
     };
@@ -65,7 +70,7 @@ pub unsafe fn job_by(function: Function, job: &Job, lent: Lent) -> Answer {
 pub type WhyTold = ([u32; 7], [u64; 2]);
 
 /// What stands in an answer and its parameters before a call, and after it in three places past each:
-/// no number that is told, and NaNs that signal.
+/// no number that is told or found, and NaNs that signal.
 const UNSET: u32 = 0xaaaa_aaaa;
 const UNSET_PARAM: u64 = 0x7ff4_0000_dead_beef;
 
@@ -93,5 +98,30 @@ pub fn why(job: &Job, segment: u32) -> WhyTold {
         (array::from_fn(|i| answer[i]), array::from_fn(|i| params[i]))
     } else {
         TORN_WHY
+    }
+}
+
+const TORN_PART: PartAnswer = [u32::MAX; 4];
+
+/// Asks the proved code for a part. The number comes back twice; where the two differ, or a place past
+/// the answer was written to, the answer is `TORN_PART`.
+pub fn part(output: Output, source: u32) -> PartAnswer {
+    let mut answer = [UNSET; 7];
+    // SAFETY: both lists are lent with their lengths, and four numbers have their places.
+    let number = unsafe {
+        blidrosk_part(
+            output.n,
+            output.flags.as_ptr(),
+            output.flags.len(),
+            output.origins.as_ptr(),
+            output.origins.len(),
+            source,
+            answer.as_mut_ptr().cast(),
+        )
+    };
+    if answer[4..] == [UNSET; 3] && number == answer[0] {
+        array::from_fn(|i| answer[i])
+    } else {
+        TORN_PART
     }
 }

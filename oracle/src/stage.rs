@@ -8,6 +8,9 @@ pub use before::Before;
 /// Number, place, vertices, indexes, closed mark.
 pub type Answer = [u32; 5];
 
+/// How many places there are for numbers, flags, indexes and origins.
+pub type Places = [usize; 4];
+
 /// Whatever works a job into the buffers that it is lent.
 pub type Stage = fn(&Job, Lent) -> Answer;
 
@@ -18,8 +21,8 @@ pub struct Job {
     pub closed: bool,
     pub offset: f64,
     pub eps: f64,
-    /// How many numbers, flags and indexes are lent.
-    pub room: [usize; 3],
+    /// How many places are lent.
+    pub room: Places,
 }
 
 /// How many places more than a job needs are lent, unless it says otherwise.
@@ -36,7 +39,7 @@ impl Job {
             closed,
             offset,
             eps,
-            room: [0; 3],
+            room: [0; 4],
         };
         job.lend(2 * job.segments() + SPARE);
         job
@@ -51,9 +54,9 @@ impl Job {
         }
     }
 
-    /// Lends places for `count` vertices, flags and indexes.
+    /// Lends places for `count` vertices, flags, indexes and origins.
     pub fn lend(&mut self, count: usize) {
-        self.room = [3 * count, count, count];
+        self.room = [3 * count, count, count, count];
     }
 
     /// The source, with what is over of a ragged one left out.
@@ -72,7 +75,7 @@ impl Job {
     }
 
     /// Runs with buffers of so many places, of which the job is lent the first.
-    pub fn run_among(&self, places: [usize; 3], stage: Stage) -> Outcome {
+    pub fn run_among(&self, places: Places, stage: Stage) -> Outcome {
         self.run_over(Before::MARKS, places, stage)
     }
 
@@ -92,7 +95,7 @@ impl Job {
         Before::pattern((mixed >> 32) as usize % Before::PATTERNS)
     }
 
-    pub fn run_over(&self, before: Before, places: [usize; 3], stage: Stage) -> Outcome {
+    pub fn run_over(&self, before: Before, places: Places, stage: Stage) -> Outcome {
         let mut buffers = Buffers::over(before, places);
         let answer = stage(self, buffers.lend(self.room));
         Outcome {
@@ -100,15 +103,17 @@ impl Job {
             vertices: buffers.vertices.into_iter().map(f64::to_bits).collect(),
             flags: buffers.flags,
             indexes: buffers.indexes,
+            origins: buffers.origins,
         }
     }
 }
 
-/// What a job may write to: numbers, flags and indexes.
+/// What a job may write to: numbers, flags, indexes and origins.
 pub struct Lent<'a> {
     pub vertices: &'a mut [f64],
     pub flags: &'a mut [u8],
     pub indexes: &'a mut [u32],
+    pub origins: &'a mut [u32],
 }
 
 impl Lent<'_> {
@@ -118,6 +123,7 @@ impl Lent<'_> {
             vertices: self.vertices,
             flags: self.flags,
             indexes: self.indexes,
+            origins: self.origins,
         }
     }
 }
@@ -127,28 +133,31 @@ pub struct Buffers {
     vertices: Vec<f64>,
     flags: Vec<u8>,
     indexes: Vec<u32>,
+    origins: Vec<u32>,
 }
 
 impl Buffers {
-    pub fn of(places: [usize; 3]) -> Self {
+    pub fn of(places: Places) -> Self {
         Self::over(Before::MARKS, places)
     }
 
-    pub fn over(before: Before, [numbers, flags, indexes]: [usize; 3]) -> Self {
+    pub fn over(before: Before, [numbers, flags, indexes, origins]: Places) -> Self {
         let number = |place| f64::from_bits(before.number(place));
         Self {
             vertices: (0..numbers).map(number).collect(),
             flags: (0..flags).map(|place| before.flag(place)).collect(),
             indexes: (0..indexes).map(|place| before.index(place)).collect(),
+            origins: (0..origins).map(|place| before.origin(place)).collect(),
         }
     }
 
     /// The first places of each kind.
-    pub fn lend(&mut self, [numbers, flags, indexes]: [usize; 3]) -> Lent<'_> {
+    pub fn lend(&mut self, [numbers, flags, indexes, origins]: Places) -> Lent<'_> {
         Lent {
             vertices: &mut self.vertices[..numbers],
             flags: &mut self.flags[..flags],
             indexes: &mut self.indexes[..indexes],
+            origins: &mut self.origins[..origins],
         }
     }
 }
@@ -160,17 +169,20 @@ pub struct Outcome {
     pub vertices: Vec<u64>,
     pub flags: Vec<u8>,
     pub indexes: Vec<u32>,
+    /// 2s of the span of source segment s, 2s+1 of the connector after it.
+    pub origins: Vec<u32>,
 }
 
 impl Outcome {
     /// An answer that leaves so many places of each kind as they were.
-    pub fn untouched(answer: Answer, before: Before, places: [usize; 3]) -> Self {
-        let [numbers, flags, indexes] = places;
+    pub fn untouched(answer: Answer, before: Before, places: Places) -> Self {
+        let [numbers, flags, indexes, origins] = places;
         Self {
             answer,
             vertices: (0..numbers).map(|place| before.number(place)).collect(),
             flags: (0..flags).map(|place| before.flag(place)).collect(),
             indexes: (0..indexes).map(|place| before.index(place)).collect(),
+            origins: (0..origins).map(|place| before.origin(place)).collect(),
         }
     }
 
@@ -184,9 +196,11 @@ impl Outcome {
         let mut numbers = self.vertices.iter().enumerate().skip(3 * set);
         let mut flags = self.flags.iter().enumerate().skip(set);
         let mut indexes = self.indexes.iter().enumerate().skip(set);
+        let mut origins = self.origins.iter().enumerate().skip(set);
         numbers.all(|(place, bits)| *bits == before.number(place))
             && flags.all(|(place, flag)| *flag == before.flag(place))
             && indexes.all(|(place, index)| *index == before.index(place))
+            && origins.all(|(place, origin)| *origin == before.origin(place))
     }
 
     /// The drawn vertices, as numbers.
@@ -198,11 +212,21 @@ impl Outcome {
             .collect()
     }
 
-    /// One flag for each drawn segment.
-    pub fn drawn_flags(&self) -> &[u8] {
+    /// How many segments are drawn.
+    pub fn segments(&self) -> usize {
         let [_, _, vertices, _, closed] = self.answer;
         let open = u32::from(closed == 0 && vertices > 0);
-        &self.flags[..(vertices - open) as usize]
+        (vertices - open) as usize
+    }
+
+    /// One flag for each drawn segment.
+    pub fn drawn_flags(&self) -> &[u8] {
+        &self.flags[..self.segments()]
+    }
+
+    /// One origin for each drawn segment.
+    pub fn drawn_origins(&self) -> &[u32] {
+        &self.origins[..self.segments()]
     }
 
     /// The drawn indexes.

@@ -2,10 +2,14 @@
 //! sixteen hexadecimal digits. In an outcome any NaN is written 7ff8000000000000.
 //!
 //! A job: `closed offset eps v x y bulge ..`, closed being 0 or 1. Where its list is ragged, or it is
-//! lent other places than it needs and one more, `room numbers flags indexes` comes first, and the
-//! count of numbers stands for v. An outcome: `number place vertices indexes closed`, the drawn
-//! numbers, one flag for each output segment, the indexes.
+//! lent other places than it needs and one more, `room numbers flags indexes origins` comes first, and
+//! the count of numbers stands for v. An outcome: `number place vertices indexes closed`, the drawn
+//! numbers, one flag for each output segment, the indexes, one origin for each output segment.
+//!
+//! A question for a part: `part n source flags`, the last being how many there are, then the flags and
+//! the origins.
 
+use crate::part::Output;
 use crate::stage::{Job, Outcome};
 use crate::traced::Rule;
 use std::fmt::Write;
@@ -26,9 +30,9 @@ pub fn job_row(job: &Job) -> String {
 
 /// The row of any job.
 pub fn any_job_row(job: &Job) -> String {
-    let [numbers, flags, indexes] = job.room;
+    let [numbers, flags, indexes, origins] = job.room;
     let row = row_of(job, job.source.len());
-    format!("room {numbers} {flags} {indexes} {row}")
+    format!("room {numbers} {flags} {indexes} {origins} {row}")
 }
 
 fn row_of(job: &Job, count: usize) -> String {
@@ -56,7 +60,41 @@ pub fn outcome_row(outcome: &Outcome) -> String {
     for index in outcome.invalid() {
         write!(row, " {index}").expect("a string takes all");
     }
+    for origin in outcome.drawn_origins() {
+        write!(row, " {origin}").expect("a string takes all");
+    }
     row
+}
+
+/// The row of a question for the part of a source segment.
+pub fn part_row(output: Output, source: u32) -> String {
+    let mut row = format!("part {} {source} {}", output.n, output.flags.len());
+    for flag in output.flags {
+        write!(row, " {flag}").expect("a string takes all");
+    }
+    for origin in output.origins {
+        write!(row, " {origin}").expect("a string takes all");
+    }
+    row
+}
+
+/// What a question for a part asks: n, the source segment, flags and origins.
+pub type PartAsked = (u32, u32, Vec<u8>, Vec<u32>);
+
+/// Reads what `part_row` writes.
+pub fn read_part(row: &str) -> Option<PartAsked> {
+    let mut words = row.strip_prefix("part ")?.split(' ');
+    let n = words.next()?.parse().ok()?;
+    let source = words.next()?.parse().ok()?;
+    let count: usize = words.next()?.parse().ok()?;
+    let flags: Option<Vec<u8>> = words
+        .by_ref()
+        .take(count)
+        .map(|word| word.parse().ok())
+        .collect();
+    let origins: Option<Vec<u32>> = words.map(|word| word.parse().ok()).collect();
+    let flags = flags.filter(|flags| flags.len() == count)?;
+    Some((n, source, flags, origins?))
 }
 
 /// The names of a current side's rule and the next one's.
@@ -80,7 +118,7 @@ pub fn read_job(row: &str) -> Option<Job> {
         return read_words(&mut row.split(' '), 3);
     };
     let mut words = rest.split(' ');
-    let mut room = [0; 3];
+    let mut room = [0; 4];
     for places in &mut room {
         *places = words.next()?.parse().ok()?;
     }

@@ -100,7 +100,7 @@ fn quieting(job: &Job, mut lent: Lent) -> Answer {
     answer
 }
 
-/// 000 with the first number, flag or index past 2n set to zero.
+/// 000 with the first number, flag, index or origin past 2n set to zero.
 fn zeroing<const KIND: usize>(job: &Job, mut lent: Lent) -> Answer {
     let answer = oracle::job(job, lent.on());
     let past = 2 * job.segments();
@@ -108,6 +108,7 @@ fn zeroing<const KIND: usize>(job: &Job, mut lent: Lent) -> Answer {
         0 if 3 * past < lent.vertices.len() => lent.vertices[3 * past] = 0.0,
         1 if past < lent.flags.len() => lent.flags[past] = 0,
         2 if past < lent.indexes.len() => lent.indexes[past] = 0,
+        3 if past < lent.origins.len() => lent.origins[past] = 0,
         _ => {}
     }
     answer
@@ -136,7 +137,7 @@ fn wrong_stages_are_seen() {
     // Five of sixteen entries are signalling NaNs.
     let quieted = seen(quieting);
     assert!((900..1400).contains(&quieted), "{quieted}");
-    for stage in [zeroing::<0>, zeroing::<1>, zeroing::<2>] {
+    for stage in [zeroing::<0>, zeroing::<1>, zeroing::<2>, zeroing::<3>] {
         let zeroed = seen(stage);
         assert!(zeroed > 3500, "{zeroed}");
     }

@@ -16,6 +16,7 @@ const ELSEWHERE: &[(Site, bool)] = &[
     (Site::NoRoomVertices, true),
     (Site::NoRoomFlags, true),
     (Site::NoRoomIndexes, true),
+    (Site::NoRoomOrigins, true),
 ];
 
 /// No job is known. Two candidates lie further apart than ε, or they would be one tangent point, and

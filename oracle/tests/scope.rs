@@ -1,5 +1,5 @@
 //! 01 section 5's rows and limits, and what section 1 says of the buffers; Nos. 3 and 5 as 02's
-//! 2026-02 amends them.
+//! 2026-02 amends them, No. 4 and the origins by 2026-09.
 #![cfg(with_000)]
 
 use oracle::job;
@@ -24,8 +24,14 @@ fn square(offset: f64) -> Job {
     Job::new(true, offset, EPS, numbers(&corners))
 }
 
+/// A drawing: its vertices, the indexes, the origins' codes, and whether it is closed.
+type Drawing<'a> = (&'a [[f64; 3]], &'a [u32], &'a [u32], bool);
+
+/// No vertex.
+const NOTHING: Drawing = (&[], &[], &[], false);
+
 /// The whole outcome of a done job: the drawing, zeros up to 2n, and untouched places from there.
-fn done(job: &Job, drawn: &[[f64; 3]], invalid: &[u32], closed: bool) -> Outcome {
+fn done(job: &Job, (drawn, invalid, origins, closed): Drawing) -> Outcome {
     let room = 2 * job.segments();
     let answer = [
         0,
@@ -38,6 +44,8 @@ fn done(job: &Job, drawn: &[[f64; 3]], invalid: &[u32], closed: bool) -> Outcome
     outcome.vertices[..3 * room].fill(0);
     outcome.flags[..room].fill(0);
     outcome.indexes[..room].fill(0);
+    outcome.origins[..room].fill(0);
+    outcome.origins[..origins.len()].copy_from_slice(origins);
     for (place, number) in outcome.vertices.iter_mut().zip(drawn.as_flattened()) {
         *place = number.to_bits();
     }
@@ -57,8 +65,8 @@ fn outcome(job: &Job) -> Outcome {
     job.run(oracle::job)
 }
 
-fn draws(job: &Job, drawn: &[[f64; 3]], invalid: &[u32], closed: bool) {
-    assert_eq!(outcome(job), done(job, drawn, invalid, closed), "{job:?}");
+fn draws(job: &Job, drawing: Drawing) {
+    assert_eq!(outcome(job), done(job, drawing), "{job:?}");
 }
 
 fn refuses(job: &Job, number: u32, place: u32) {
@@ -68,28 +76,33 @@ fn refuses(job: &Job, number: u32, place: u32) {
 #[test]
 fn rows_of_straight_open_jobs() {
     let straight = [[0.0, 0.0], [4.0, 0.0]];
-    let row = |points: &[[f64; 2]], offset, drawn: &[[f64; 2]], invalid: &[u32]| {
-        draws(&open(points, offset), &line(drawn), invalid, false);
-    };
-    row(&straight, 1.0, &[[0.0, 1.0], [4.0, 1.0]], &[]);
-    row(&straight, -1.0, &[[0.0, -1.0], [4.0, -1.0]], &[]);
+    let row =
+        |points: &[[f64; 2]], offset, drawn: &[[f64; 2]], invalid: &[u32], origins: &[u32]| {
+            let drawing = (&line(drawn)[..], invalid, origins, false);
+            draws(&open(points, offset), drawing);
+        };
+    row(&straight, 1.0, &[[0.0, 1.0], [4.0, 1.0]], &[], &[0]);
+    row(&straight, -1.0, &[[0.0, -1.0], [4.0, -1.0]], &[], &[0]);
     row(
         &[[0.0, 0.0], [4.0, 0.0], [4.0, 4.0]],
         1.0,
         &[[0.0, 1.0], [3.0, 1.0], [3.0, 4.0]],
         &[],
+        &[0, 2],
     );
     row(
         &[[0.0, 0.0], [4.0, 0.0], [8.0, 0.0]],
         1.0,
         &[[0.0, 1.0], [4.0, 1.0], [8.0, 1.0]],
         &[],
+        &[0, 2],
     );
     row(
         &[[0.0, 0.0], [4.0, 0.0], [4.0, 1.0]],
         2.0,
         &[[0.0, 2.0], [4.0, 2.0], [2.0, 0.0], [2.0, 1.0]],
         &[1],
+        &[0, 1, 2],
     );
 }
 
@@ -97,25 +110,31 @@ fn rows_of_straight_open_jobs() {
 fn rows_with_round_connectors() {
     draws(
         &open(&[[0.0, 0.0], [4.0, 0.0], [0.0, 0.0]], 1.0),
-        &[
-            [0.0, 1.0, 0.0],
-            [4.0, 1.0, -1.0],
-            [4.0, -1.0, 0.0],
-            [0.0, -1.0, 0.0],
-        ],
-        &[],
-        false,
+        (
+            &[
+                [0.0, 1.0, 0.0],
+                [4.0, 1.0, -1.0],
+                [4.0, -1.0, 0.0],
+                [0.0, -1.0, 0.0],
+            ],
+            &[],
+            &[0, 1, 2],
+            false,
+        ),
     );
     draws(
         &open(&[[0.0, 0.0], [4.0, 0.0], [4.0, 4.0]], -1.0),
-        &[
-            [0.0, -1.0, 0.0],
-            [4.0, -1.0, f64::from_bits(0x3fda_8279_99fc_ef33)],
-            [5.0, 0.0, 0.0],
-            [5.0, 4.0, 0.0],
-        ],
-        &[],
-        false,
+        (
+            &[
+                [0.0, -1.0, 0.0],
+                [4.0, -1.0, f64::from_bits(0x3fda_8279_99fc_ef33)],
+                [5.0, 0.0, 0.0],
+                [5.0, 4.0, 0.0],
+            ],
+            &[],
+            &[0, 1, 2],
+            false,
+        ),
     );
     assert_eq!(
         (1.0 / (1.0 + 2.0_f64.sqrt())).to_bits(),
@@ -125,44 +144,40 @@ fn rows_with_round_connectors() {
 
 #[test]
 fn rows_of_the_closed_square() {
-    draws(
-        &square(1.0),
-        &line(&[[1.0, 1.0], [3.0, 1.0], [3.0, 3.0], [1.0, 3.0]]),
-        &[],
-        true,
-    );
-    draws(
-        &square(3.0),
-        &line(&[[3.0, 3.0], [1.0, 3.0], [1.0, 1.0], [3.0, 1.0]]),
-        &[0, 1, 2, 3],
-        true,
-    );
-    draws(&square(2.0), &[], &[], false);
+    let smaller = line(&[[1.0, 1.0], [3.0, 1.0], [3.0, 3.0], [1.0, 3.0]]);
+    draws(&square(1.0), (&smaller, &[], &[0, 2, 4, 6], true));
+    let turned = line(&[[3.0, 3.0], [1.0, 3.0], [1.0, 1.0], [3.0, 1.0]]);
+    let drawing: Drawing = (&turned, &[0, 1, 2, 3], &[0, 2, 4, 6], true);
+    draws(&square(3.0), drawing);
+    draws(&square(2.0), NOTHING);
 }
 
 #[test]
 fn row_of_a_lone_collapsed_arc() {
     let job = Job::new(false, 3.0, EPS, vec![0.0, 0.0, 1.0, 4.0, 0.0, 0.0]);
-    draws(&job, &[], &[], false);
+    draws(&job, NOTHING);
 }
 
 #[test]
 fn room_for_three_is_refused_and_four_suffices() {
     let points = [[0.0, 0.0], [4.0, 0.0], [4.0, 1.0]];
     let mut job = open(&points, 2.0);
-    for (kind, need) in [(0, 12), (1, 4), (2, 4)] {
-        job.lend(4);
-        job.room[kind] = need - 1;
-        refuses(&job, 4, 0);
+    for (kind, need) in [(0, 12), (1, 4), (2, 4), (3, 4)] {
+        for places in [need - 1, 0] {
+            job.lend(4);
+            job.room[kind] = places;
+            refuses(&job, 4, 0);
+            job.lend(40);
+            job.room[kind] = places;
+            refuses(&job, 4, 0);
+        }
     }
-    job.room = [11, 4, 4];
-    refuses(&job, 4, 0);
     job.lend(4);
     assert_eq!(outcome(&job).answer, [0, 0, 4, 1, 0]);
     // A number of the next vertex is no room for it, and stays.
-    job.room = [14, 6, 5];
+    job.room = [14, 6, 5, 7];
     let drawn = line(&[[0.0, 2.0], [4.0, 2.0], [2.0, 0.0], [2.0, 1.0]]);
-    draws(&job, &drawn, &[1], false);
+    draws(&job, (&drawn, &[1], &[0, 1, 2], false));
 }
 
 #[test]
@@ -308,7 +323,8 @@ fn a_zero_offset_copies() {
     for offset in [0.0, -0.0] {
         for closed in [false, true] {
             let mut job = Job::new(closed, offset, EPS, numbers(&source));
-            draws(&job, &source, &[], closed);
+            let origins = &[0, 2, 4][..job.segments()];
+            draws(&job, (&source, &[], origins, closed));
             job.lend(2 * job.segments() - 1);
             refuses(&job, 4, 0);
         }
@@ -320,11 +336,11 @@ fn fewer_than_two_vertices_draw_nothing() {
     for closed in [false, true] {
         for source in [vec![], vec![1.0, 2.0, 3.0]] {
             let mut job = Job::new(closed, 1.0, EPS, source);
-            draws(&job, &[], &[], false);
+            draws(&job, NOTHING);
             job.lend(0);
-            draws(&job, &[], &[], false);
+            draws(&job, NOTHING);
             job.offset = 0.0;
-            draws(&job, &[], &[], false);
+            draws(&job, NOTHING);
         }
     }
 }

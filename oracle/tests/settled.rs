@@ -63,6 +63,7 @@ fn line_and_circle_can_meet_at_no_number() {
     assert!(outcome.vertices[..12].iter().all(|bits| *bits == 0));
     assert!(outcome.flags[..4].iter().all(|flag| *flag == 0));
     assert!(outcome.indexes[..4].iter().all(|index| *index == 0));
+    assert!(outcome.origins[..4].iter().all(|origin| *origin == 0));
 }
 
 #[test]

@@ -505,7 +505,7 @@ fn damaged(random: &mut Random) -> Job {
         }
         1 => job.source.push(random.around(1.0)),
         2 => {
-            let kind = random.below(3);
+            let kind = random.pick(&[0, 1, 2, 0, 1, 3]);
             let need = if kind == 0 { 6 } else { 2 } * job.segments();
             job.room[kind] = random.below(need + 2);
         }

@@ -26,6 +26,8 @@ const FLAGS: [u8; 4] = [0xa5, 0x01, 0xff, 0x02];
 
 const INDEXES: [u32; 4] = [0xdead_beef, 0x0000_0001, 0xffff_ffff, 0x8000_0000];
 
+const ORIGINS: [u32; 4] = [0xcafe_f00d, 0xffff_fffe, 0x0000_0002, 0x7fff_ffff];
+
 /// A pattern: each place holds the entry `start`, or each the one after its neighbour's.
 #[derive(Debug, Copy, Clone, PartialEq, Eq)]
 pub struct Before {
@@ -62,5 +64,9 @@ impl Before {
 
     pub fn index(self, place: usize) -> u32 {
         INDEXES[(self.start + self.step * place) % INDEXES.len()]
+    }
+
+    pub fn origin(self, place: usize) -> u32 {
+        ORIGINS[(self.start + self.step * place) % ORIGINS.len()]
     }
 }

@@ -1,4 +1,4 @@
-//! The job of 01 section 1, as 02's 2026-02 amends it, with its tests recorded.
+//! The job of 01 section 1, as 02's 2026-02 and 2026-09 amend it, with its tests recorded.
 
 use super::joins::Setting;
 use super::moves::{Drawing, Walk};
@@ -85,9 +85,11 @@ fn write(job: &Job, result: &Result, lent: Lent) -> Answer {
     let raised = drawing.flags().enumerate().filter(|(_, flag)| *flag);
     let mut raised = raised.map(|(i, _)| i as u32);
     let mut flags = drawing.flags();
+    let mut origins = drawing.origins();
     for i in 0..room {
         lent.flags[i] = flags.next().unwrap_or(false).into();
         lent.indexes[i] = raised.next().unwrap_or(0);
+        lent.origins[i] = origins.next().unwrap_or(Origin::Span(0)).code();
     }
     answer(result)
 }
@@ -139,6 +141,7 @@ impl Trace {
         if self.ask(Site::NoRoomVertices, job.room[0] / 3 < need)
             || self.ask(Site::NoRoomFlags, job.room[1] < need)
             || self.ask(Site::NoRoomIndexes, job.room[2] < need)
+            || self.ask(Site::NoRoomOrigins, job.room[3] < need)
         {
             return Err(Result::Refused(4, 0));
         }

@@ -68,6 +68,10 @@ impl Drawing {
     pub fn flags(&self) -> impl Iterator<Item = bool> {
         self.whys.iter().map(|why| why.reason.is_flagged())
     }
+
+    pub fn origins(&self) -> impl Iterator<Item = Origin> {
+        self.whys.iter().map(|why| why.origin)
+    }
 }
 
 impl Trace {

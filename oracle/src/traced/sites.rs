@@ -39,6 +39,7 @@ listed! {
         NoRoomVertices = "job: too few vertices lent",
         NoRoomFlags = "job: too few flags lent",
         NoRoomIndexes = "job: too few indexes lent",
+        NoRoomOrigins = "job: too few origins lent",
         ZeroOffset = "job: offset = 0",
         RepeatedX = "job: joined vertices equal in x",
         RepeatedY = "job: joined vertices equal in y",

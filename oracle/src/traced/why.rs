@@ -11,6 +11,16 @@ pub enum Origin {
     Connector(usize),
 }
 
+impl Origin {
+    /// As a lent place holds it: twice the source segment, and one more of a connector.
+    pub fn code(self) -> u32 {
+        match self {
+            Self::Span(source) => 2 * source as u32,
+            Self::Connector(source) => 2 * source as u32 + 1,
+        }
+    }
+}
+
 /// The branch that a move came by.
 #[derive(Debug, Copy, Clone, PartialEq)]
 pub enum Reason {

@@ -4,7 +4,8 @@
 //! `proved` and `000` work the whole job: refusals, the offset, the lent buffers. `walk` is 000's own
 //! `create_raw_offset`, on a polyline that stands ready, into lists of its own. `atans` is how many
 //! arc tangents a vertex takes on 000. Before anything is timed, each job's outcome on the proved code
-//! is held against 000's: the answer, and every place of the buffers.
+//! is held against 000's: the answer, and every place of the buffers. 000 tells no origins: its moves
+//! are counted for that, and not while it is timed.
 //!
 //! A machine's speed may change in the middle of a run, and not by one factor for all sides: with other
 //! work beside it 000 lost more than the proved code did. So the least of many turns may be from a fast
@@ -25,6 +26,11 @@
 //! ```sh
 //! cc -shared -Wl,--whole-archive before.a -Wl,--no-whole-archive -o before.so
 //! ```
+//!
+//! A build from before 2026-09 takes no origins. `objcopy --redefine-sym` gives its function another
+//! name, and a function in C has the name, takes them and calls it. Every place is held, origins too:
+//! so where a source is not that of the call before, it first lets the build of now work the job, under
+//! another name too. That is when the outcome is held, and in the turns that are not counted.
 mod before;
 mod measure;
 mod tables;
@@ -41,7 +47,7 @@ const LARGE: usize = 4096;
 const BETWEEN: [usize; 7] = [8, 32, 128, 256, 512, 1024, 2048];
 
 /// Each drawing of each kind, and the last of each kind with every count of vertices.
-fn cases(stages: &[Stage]) -> Vec<Case> {
+fn cases(stages: &[[Stage; 2]]) -> Vec<Case> {
     let mut cases = Vec::new();
     for (kind, shapes) in KINDS {
         for shape in shapes {

@@ -56,7 +56,7 @@ impl Case {
     /// The shape with v vertices, offset to its left (1) or to its right (-1). Stops where two stages
     /// differ in an answer or in any place of the buffers, and where the job is refused.
     pub fn new(
-        stages: &[Stage],
+        stages: &[[Stage; 2]],
         kind: &'static str,
         shape: &'static Shape,
         v: usize,
@@ -65,9 +65,9 @@ impl Case {
         let job = Job::new(shape.closed, side * shape.offset, EPS, shape.source(v));
         let outcome = job.run(oracle::job);
         let mut sides = Vec::new();
-        for &stage in stages {
-            assert!(job.run(stage) == outcome, "{kind} differ: {job:?}");
-            sides.push(Side::Job(stage, Buffers::of(job.room)));
+        for &[held, timed] in stages {
+            assert!(job.run(held) == outcome, "{kind} differ: {job:?}");
+            sides.push(Side::Job(timed, Buffers::of(job.room)));
         }
         assert!(outcome.answer[0] == 0, "{kind} are refused: {job:?}");
         sides.insert(WALK, Side::Walk(job.polyline()));

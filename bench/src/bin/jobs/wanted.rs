@@ -33,11 +33,13 @@ impl Wanted {
         wanted
     }
 
-    /// Each that works whole jobs: the proved stage, 000, and the other build.
-    pub fn stages(&self) -> Vec<Stage> {
-        let mut stages: Vec<Stage> = vec![oracle::proved::job, oracle::job];
+    /// Each that works whole jobs, as it is held and as it is timed: the proved stage, 000, whose moves
+    /// are not counted while it is timed, and the other build.
+    pub fn stages(&self) -> Vec<[Stage; 2]> {
+        let mut stages: Vec<[Stage; 2]> =
+            vec![[oracle::proved::job; 2], [oracle::job, oracle::plain_job]];
         if self.before {
-            stages.push(before::job);
+            stages.push([before::job; 2]);
         }
         stages
     }

@@ -19,12 +19,15 @@ pub fn each_plain_job(seed: u64, random: u64, mut take: impl FnMut(&'static str,
 
 /// Hands out the jobs of standard input, a row each, and says how many rows are none.
 pub fn each_row(mut take: impl FnMut(&Job)) -> u64 {
+    each_line(|row| read_job(row).map(|job| take(&job)).is_some())
+}
+
+/// Hands out the rows of standard input, and says how many were not taken.
+pub fn each_line(mut take: impl FnMut(&str) -> bool) -> u64 {
     let mut none = 0;
     for row in stdin().lines() {
         let row = row.expect("standard input can be read");
-        if let Some(job) = read_job(&row) {
-            take(&job);
-        } else {
+        if !take(&row) {
             println!("no job: {row}");
             none += 1;
         }

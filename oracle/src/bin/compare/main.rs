@@ -16,6 +16,9 @@
 //! - `compare why SEED RANDOM STEERED` asks the proved code of each output segment of such jobs which
 //!   move it is and why its flag is set or clear, and holds the answer to the traced job's.
 //! - `compare why` does so for the jobs that standard input holds, a row each.
+//! - `compare parts SEED RANDOM STEERED` asks the proved code for the part of each source segment of such
+//!   jobs, and of made-up lists, and holds it to 02's 2026-09; it lends each buffer a place too few.
+//! - `compare parts` does so for the jobs, and for the questions, that standard input holds.
 
 #[cfg(with_000)]
 mod cover;
@@ -23,10 +26,14 @@ mod cover;
 mod jobs;
 #[cfg(feature = "layers")]
 mod layers;
+#[cfg(all(feature = "proved", with_000))]
+mod made;
 #[cfg(all(any(feature = "layers", feature = "proved"), with_000))]
 mod near;
 #[cfg(with_000)]
 mod newly;
+#[cfg(all(feature = "proved", with_000))]
+mod parts;
 #[cfg(all(feature = "layers", with_000))]
 mod rules;
 #[cfg(with_000)]
@@ -53,7 +60,7 @@ fn main() {
             eprintln!(
                 "usage: compare [cover] SEED RANDOM STEERED | bulk SEED JOBS | keyholes SEED JOBS \
                  | layers SEED COUNT | rules [SEED RANDOM STEERED] | why [SEED RANDOM STEERED] \
-                 | rows"
+                 | parts [SEED RANDOM STEERED] | rows"
             );
             exit(2);
         }
@@ -94,6 +101,10 @@ fn run_jobs(mode: &str, numbers: &[u64]) -> Option<bool> {
         ("why", [seed, random, steered]) => Some(why::compare(*seed, *random, *steered)),
         #[cfg(feature = "proved")]
         ("why", []) => Some(why::rows()),
+        #[cfg(feature = "proved")]
+        ("parts", [seed, random, steered]) => Some(parts::compare(*seed, *random, *steered)),
+        #[cfg(feature = "proved")]
+        ("parts", []) => Some(parts::rows()),
         _ => None,
     }
 }

@@ -1,6 +1,8 @@
 //! Jobs near samples, and among others.
 
 use crate::jobs::{each_plain_job, each_random_job, each_steered_job};
+#[cfg(feature = "proved")]
+use oracle::generate::REASONS;
 use oracle::generate::{KEYHOLES, Random};
 use oracle::stage::Job;
 use oracle::text::read_job;
@@ -10,6 +12,33 @@ const PER_SAMPLE: u64 = 10;
 
 /// Jobs that reach each rule by which a trimmed arc is granted.
 const RULES: &str = include_str!("../samples/rules.txt");
+
+/// Jobs that reach each reason, by each way to it.
+#[cfg(feature = "proved")]
+const WHYS: &str = include_str!("../samples/why.txt");
+
+/// Hands out the jobs of `each_ruled_job`, and as many of the families and near the samples made for
+/// reasons.
+#[cfg(feature = "proved")]
+pub fn each_reasoned_job(
+    seed: u64,
+    random: u64,
+    steered: u64,
+    mut take: impl FnMut(&'static str, &Job),
+) {
+    samples(WHYS).iter().for_each(|job| take("samples", job));
+    take("too many", &too_many());
+    each_near_sample(WHYS, seed, random, &mut take);
+    each_random_job(REASONS, seed, random, &mut take);
+    each_ruled_job(seed, random, steered, take);
+}
+
+/// One vertex more than may be; of random jobs few have as many.
+#[cfg(feature = "proved")]
+fn too_many() -> Job {
+    let source = (0..=4096).flat_map(|i| [f64::from(i), 0.0, 0.0]);
+    Job::new(false, 1.0, 1e-5, source.collect())
+}
 
 /// Hands out the jobs of the grids, random ones of all families and once more of those that 2026-02
 /// let in, jobs near the samples, and steered ones.
@@ -26,18 +55,13 @@ pub fn each_ruled_job(
 }
 
 /// The jobs of a list of samples.
-pub fn samples(list: &str) -> Vec<Job> {
+fn samples(list: &str) -> Vec<Job> {
     let rows = list.lines().filter(|row| !row.starts_with('#'));
     rows.map(|row| read_job(row).expect("a job")).collect()
 }
 
 /// Hands out `count` jobs of a list of samples with one or two of their numbers moved a little.
-pub fn each_near_sample(
-    list: &str,
-    seed: u64,
-    count: u64,
-    mut take: impl FnMut(&'static str, &Job),
-) {
+fn each_near_sample(list: &str, seed: u64, count: u64, mut take: impl FnMut(&'static str, &Job)) {
     let samples = samples(list);
     let mut random = Random::new(seed);
     for i in 0..count {

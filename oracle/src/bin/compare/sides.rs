@@ -46,6 +46,11 @@ impl Tally {
     /// Runs a job on 000 and on each of the sides. What no side may touch is held to what it was
     /// too, so that 000's own run can change nothing there.
     pub fn hold(&mut self, family: &'static str, job: &Job, sides: &[(&str, Stage)]) {
+        self.outcome(family, job, sides);
+    }
+
+    /// The same, and hands back what 000 answers.
+    pub fn outcome(&mut self, family: &'static str, job: &Job, sides: &[(&str, Stage)]) -> Outcome {
         let expected = job.run_compared(oracle::job);
         let number = expected.answer[0] as usize;
         self.count(family, number);
@@ -60,6 +65,7 @@ impl Tally {
                 self.differ(&format!("{name} differs"), job, &expected, &outcome);
             }
         }
+        expected
     }
 
     fn differ(&mut self, what: &str, job: &Job, expected: &Outcome, outcome: &Outcome) {

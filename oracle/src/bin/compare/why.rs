@@ -1,10 +1,9 @@
 //! Holds what the proved code tells of each output segment, which move it is and why its flag is set or
 //! clear, to the traced job, which is held to 000 on the same jobs.
 
-use crate::jobs::{each_random_job, each_row};
-use crate::near::{each_near_sample, each_ruled_job, samples};
+use crate::jobs::each_row;
+use crate::near::each_reasoned_job;
 use crate::sides::{TRACED, Tally};
-use oracle::generate::REASONS;
 use oracle::proved::{self, WhyTold};
 use oracle::stage::Job;
 use oracle::text::{any_job_row, exact};
@@ -12,9 +11,6 @@ use oracle::traced::{Reason, Rule, Told, Whys, told, whys};
 
 /// Differences are printed up to this many.
 const SHOWN: u64 = 10;
-
-/// Jobs that reach each reason, by each way to it.
-const SAMPLES: &str = include_str!("../samples/why.txt");
 
 /// Numbers of rules, 0 of none.
 const RULES: usize = Rule::ALL.len() + 1;
@@ -41,20 +37,9 @@ struct Reasons {
 /// Runs the jobs that `rules` does, and as many of the families and near the samples made for reasons.
 pub fn compare(seed: u64, random: u64, steered: u64) -> bool {
     let mut held = Reasons::default();
-    let mut hold = |family, job: &Job| held.hold(family, job);
-    samples(SAMPLES).iter().for_each(|job| hold("samples", job));
-    hold("too many", &too_many());
-    each_near_sample(SAMPLES, seed, random, &mut hold);
-    each_random_job(REASONS, seed, random, &mut hold);
-    each_ruled_job(seed, random, steered, &mut hold);
+    each_reasoned_job(seed, random, steered, |family, job| held.hold(family, job));
     held.print_never();
     held.agree()
-}
-
-/// One vertex more than may be; of random jobs few have as many.
-fn too_many() -> Job {
-    let source = (0..=4096).flat_map(|i| [f64::from(i), 0.0, 0.0]);
-    Job::new(false, 1.0, 1e-5, source.collect())
 }
 
 /// Runs the jobs of standard input.

@@ -1,7 +1,7 @@
-//! Jobs at the edges of 01 section 1, as 02's 2026-02 amends it: rooms, limits, refusals with their
-//! places and their order, short sources, and an offset of zero.
+//! Jobs at the edges of 01 section 1, as 02's 2026-02 and 2026-09 amend it: rooms, limits, refusals
+//! with their places and their order, short sources, and an offset of zero.
 
-use oracle::stage::Job;
+use oracle::stage::{Job, Places};
 
 const EPS: f64 = 1e-5;
 const REACH: f64 = 1_000_000.0;
@@ -11,15 +11,20 @@ const OLD_BULGE: f64 = 1000.0;
 const INF: f64 = f64::INFINITY;
 const TINY: f64 = f64::from_bits(1);
 
-/// No room, too many places and too few of each kind, around what a job needs.
-pub fn rooms() -> Vec<Job> {
+/// Jobs to lend any room to: open, closed, of arcs, and a copy.
+fn lendable() -> [Job; 4] {
     let corner = [[0.0, 0.0, 0.0], [4.0, 0.0, 0.0], [4.0, 1.0, 0.0]];
     let pair = [[0.0, 0.0, 0.5], [4.0, 0.0, -0.25]];
-    let mut jobs = Vec::new();
     let closing = Job::new(true, 2.0, EPS, corner.concat());
     let arcs = Job::new(true, -0.5, EPS, pair.concat());
     let copied = Job::new(true, 0.0, EPS, corner.concat());
-    for job in [open(&corner, 2.0), closing, arcs, copied] {
+    [open(&corner, 2.0), closing, arcs, copied]
+}
+
+/// No room, too many places and too few of each kind, around what a job needs.
+pub fn rooms() -> Vec<Job> {
+    let mut jobs = Vec::new();
+    for job in lendable() {
         let need = 2 * job.segments();
         for count in [0, need - 1, need, need + 1, need + 3] {
             let mut lent = job.clone();
@@ -27,11 +32,40 @@ pub fn rooms() -> Vec<Job> {
             jobs.push(lent);
         }
         for numbers in [3 * need - 1, 3 * need + 1, 3 * need + 2] {
-            jobs.push(lent(&job, [numbers, need, need]));
+            jobs.push(lent(&job, [numbers, need, need, need]));
         }
-        jobs.push(lent(&job, [3 * need, need - 1, need]));
-        jobs.push(lent(&job, [3 * need, need, need - 1]));
-        jobs.push(lent(&job, [3 * need + 4, need + 2, need + 1]));
+        jobs.push(lent(&job, [3 * need, need - 1, need, need]));
+        jobs.push(lent(&job, [3 * need, need, need - 1, need]));
+        jobs.push(lent(&job, [3 * need + 4, need + 2, need + 1, need + 3]));
+    }
+    jobs
+}
+
+/// Origins alone too few, also where all else is more than enough, and origins far too many. No. 4
+/// comes before No. 5, after No. 3, and without a segment no origin is needed.
+pub fn origins() -> Vec<Job> {
+    let mut jobs = Vec::new();
+    for job in lendable() {
+        let need = 2 * job.segments();
+        for room in [
+            [3 * need, need, need, need - 1],
+            [3 * need, need, need, 0],
+            [256, 88, 88, need - 1],
+            [3 * need, need, need, 88],
+        ] {
+            jobs.push(lent(&job, room));
+        }
+    }
+    let corner = [[0.0, 0.0, 0.0], [4.0, 0.0, 0.0], [4.0, 1.0, 0.0]];
+    let repeated = [corner[0], corner[1], corner[1]];
+    for (vertices, offset) in [(repeated, 1.0), (corner, f64::NAN), (corner, -0.0)] {
+        for origins in [3, 4] {
+            jobs.push(lent(&open(&vertices, offset), [12, 4, 4, origins]));
+        }
+    }
+    for vertices in [&corner[..0], &corner[..1]] {
+        jobs.push(lent(&open(vertices, 1.0), [6, 2, 2, 0]));
+        jobs.push(lent(&open(vertices, 0.0), [0, 0, 0, 2]));
     }
     jobs
 }
@@ -152,7 +186,7 @@ pub fn short() -> Vec<Job> {
     for closed in [false, true] {
         for length in 0..=numbers.len() {
             let job = Job::new(closed, 0.5, EPS, numbers[..length].to_vec());
-            jobs.push(lent(&job, [0, 0, 0]));
+            jobs.push(lent(&job, [0; 4]));
             jobs.push(job);
         }
         for length in [0, 3] {
@@ -189,7 +223,7 @@ fn open(vertices: &[[f64; 3]], offset: f64) -> Job {
     Job::new(false, offset, EPS, vertices.concat())
 }
 
-fn lent(job: &Job, room: [usize; 3]) -> Job {
+fn lent(job: &Job, room: Places) -> Job {
     Job {
         room,
         ..job.clone()

@@ -38,7 +38,9 @@ fn job(line: &str) -> Job {
 
 pub fn print() {
     println!("# job: closed offset eps v vertices -> number place vertices indexes closed,");
-    println!("# the drawn vertices, a flag for each segment, the indexes");
+    println!(
+        "# the drawn vertices, a flag for each segment, the indexes, an origin for each segment"
+    );
     for line in JOBS.iter().flat_map(|list| list.lines()) {
         if line.starts_with('#') {
             println!("{line}");

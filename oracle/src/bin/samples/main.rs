@@ -16,6 +16,8 @@ mod joins;
 #[cfg(with_000)]
 mod layers;
 #[cfg(with_000)]
+mod parts;
+#[cfg(with_000)]
 mod programs;
 #[cfg(with_000)]
 mod rows;
@@ -42,6 +44,7 @@ fn main() -> std::io::Result<()> {
         [program, folder] if program == "floats_main" => floats::write(folder.as_ref()),
         [program, folder] if program == "jobs_main" => stored::write(folder.as_ref()),
         [program, folder] if program == "why_main" => why::write(folder.as_ref()),
+        [program, folder] if program == "parts_main" => parts::write(folder.as_ref()),
         [program, folder] => programs::write(program, folder.as_ref()),
         _ => {
             eprintln!("samples: [PROGRAM FOLDER]");

@@ -1,13 +1,13 @@
 //! The stored input and output of the program that works whole jobs.
 //!
 //! The input is words of eight bytes, highest byte first: the count of rows, then for each row the
-//! numbers of its source, closed, offset, ε, the three rooms, and the source. The output has a line
+//! numbers of its source, closed, offset, ε, the four rooms, and the source. The output has a line
 //! for each, then for four long jobs that the program makes itself.
 
 use crate::{edges, jobs};
 use oracle::generate::{FAMILIES, Random, Steering};
 use oracle::newly::newly_accepted;
-use oracle::stage::{Job, Outcome};
+use oracle::stage::{Job, Outcome, Places};
 use oracle::text::bits;
 use oracle::traced::{Site, Table, Trace, job as traced_job};
 use std::fmt::Write;
@@ -16,8 +16,8 @@ use std::{fs, io};
 
 /// The places of the program's source and buffers for a row, and for a long job.
 const SOURCE: usize = 128;
-const SHORT: [usize; 3] = [256, 88, 88];
-const LONG: [usize; 3] = [24579, 8193, 8193];
+const SHORT: Places = [256, 88, 88, 88];
+const LONG: Places = [24579, 8193, 8193, 8193];
 
 /// Drawings of more vertices are told by their checksums alone.
 const MOST_SHOWN: u32 = 16;
@@ -43,6 +43,7 @@ pub fn write(folder: &Path) -> io::Result<()> {
         ("offset zero and next to it", edges::zeros()),
         ("random", random()),
         ("either side of a turn", steered()),
+        ("rooms for origins", edges::origins()),
     ];
     for (name, jobs) in &kinds {
         println!("{name:44} {:>5}", jobs.len());
@@ -87,24 +88,34 @@ fn fits(job: &Job) -> bool {
 /// places, also those past what was lent.
 fn line(outcome: &Outcome) -> String {
     let mut line = outcome.answer.map(|number| number.to_string()).join(" ");
-    let (mut numbers, mut flags, mut indexes) = (Vec::new(), Vec::new(), Vec::new());
-    if outcome.answer[2] <= MOST_SHOWN {
-        numbers.extend(outcome.drawn().as_flattened().iter().map(|x| bits(*x)));
-        flags.extend(outcome.drawn_flags().iter().map(u8::to_string));
-        indexes.extend(outcome.invalid().iter().map(u32::to_string));
-    }
     let sums = [
         checksum(outcome.vertices.iter().copied()),
         checksum(outcome.flags.iter().copied().map(u64::from)),
         checksum(outcome.indexes.iter().copied().map(u64::from)),
+        checksum(outcome.origins.iter().copied().map(u64::from)),
     ];
-    for (shown, sum) in [numbers, flags, indexes].into_iter().zip(sums) {
+    for (shown, sum) in shown(outcome).into_iter().zip(sums) {
         for word in shown {
             write!(line, " {word}").expect("a string takes all");
         }
         write!(line, " sum {sum:016x}").expect("a string takes all");
     }
     line + "\n"
+}
+
+/// For each buffer the words of what was drawn, none if that is long.
+fn shown(outcome: &Outcome) -> [Vec<String>; 4] {
+    if outcome.answer[2] > MOST_SHOWN {
+        return Default::default();
+    }
+    let drawn = outcome.drawn();
+    let numbers = drawn.as_flattened().iter().map(|x| bits(*x));
+    [
+        numbers.collect(),
+        outcome.drawn_flags().iter().map(u8::to_string).collect(),
+        outcome.invalid().iter().map(u32::to_string).collect(),
+        outcome.drawn_origins().iter().map(u32::to_string).collect(),
+    ]
 }
 
 /// Tells places apart: before each word the sum is added to itself turned by five.
