@@ -1,5 +1,6 @@
 -- `part::find` meets its contract. Assumes nothing.
 use mathlib.Core.Path.{sym, ap, _∙_}
+use native.Mathlib.Omega.{arith}
 use borrow.Author.Needs.{needs}
 use lib.ListN.{length, take}
 use Rattle.moves.specs.Origins.{originsIn}
@@ -17,7 +18,7 @@ returns c =
 returns-2 : tie.Need-returns-2
 returns-2 c =
     let codes = c .before .before .before .before .args .origins .now in
-    none-such _ _ (originsIn codes) _ (c .before .before .if1 .left ∙ sym (origins-length codes)) (c .if2 .taken)
+    none-such _ _ (originsIn codes) _ (c .before .before .if1 .left ∙ sym (origins-length codes)) (omega (arith, c .if2 .taken))
 
 returns-3 : tie.Need-returns-3
 returns-3 c =
