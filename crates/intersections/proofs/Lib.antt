@@ -1,1 +1,2 @@
+pub mod Prolonged
 pub mod Samples

@@ -7,6 +7,8 @@ use Rattle.floats.specs.Size.{absOf}
 use Rattle.vectors.specs.Plane.{_⊟_, dot, cross}
 use Rattle.vectors.specs.declared.Vector2.{Vector2}
 use Rattle.intersections.specs.declared.LineLineIntr.{LineLineIntr}
+use Rattle.intersections.specs.declared.ProlongedIntr.{ProlongedIntr}
+use Rattle.intersections.specs.declared.ProlongedIntr.the-variants as Prolonged
 use Rattle.intersections.specs.declared.LineLineIntr.the-variants.{NoIntersect, TrueIntersect, FalseIntersect, Overlapping}
 
 -- a parameter strictly between −ε and 1 + ε
@@ -27,3 +29,10 @@ lineLine p p′ q q′ ε =
     let b = dot (q′ ⊟ p) v ⊘ dot v v in
     when le ε (absOf D) give (when inSpan t ε and inSpan s ε give TrueIntersect t s else FalseIntersect t s) else
     when lt (absOf (cross v w)) ε and lt (absOf (cross u w)) ε and ((le a one or le b one) and (le zero a or le zero b)) give Overlapping else NoIntersect
+
+-- both lines prolonged: wherever |D| is not under ε they meet, at the parameter t of the first, whether or not they reach the point
+abbrev pub prolonged : LineLineIntr → ProlongedIntr
+prolonged NoIntersect = Prolonged.NoIntersect
+prolonged (TrueIntersect t s) = Prolonged.At t
+prolonged (FalseIntersect t s) = Prolonged.At t
+prolonged Overlapping = Prolonged.NoIntersect

@@ -1,3 +1,4 @@
+pub mod Modes
 pub mod Vertex
 pub mod Segment
 pub mod InnerSteps
