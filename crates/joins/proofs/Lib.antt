@@ -1,6 +1,7 @@
 pub mod Bound
 pub mod Settling
 pub mod Made
+pub mod Corner
 pub mod Rules
 pub mod Samples
 pub mod RuleSamples

@@ -1,6 +1,6 @@
 -- Every join is of one of five makes (`made`), whatever comes in. So its connector's bulge is at most 1 in size where it is a number and never of the
 -- offset's sign (`join-bound`), it is zero but in the two round classes (`round-only`), and a coincident or trimmed boundary has one point (`equal-ends`),
--- as has each whose ends are within ε (`near-one-point`). A collapsed side never meets (`collapsed-never-meets`). Assumes nothing.
+-- as has each whose ends are within ε (`near-one-point`, `near-class`). None has a tip (`join-unpointed`). A collapsed side never meets (`collapsed-never-meets`). Assumes nothing.
 use mathlib.Core.Path.{_≡_, refl, sym, _∙_}
 use mathlib.Core.Bool.{Bool, true, false, false≢true}
 use lib.Ieee.{Float, ofBits, lt, le}
@@ -26,6 +26,7 @@ use Rattle.joins.specs.declared.JoinBoundary.{JoinBoundary}
 use Rattle.joins.specs.Boundary.{straight, trimmed}
 use Rattle.joins.specs.InnerSteps.{classOf, isGap}
 use Rattle.joins.specs.InnerSteps.{ConnectorBound}
+use Rattle.joins.specs.Corner.{isPointed}
 use Rattle.joins.specs.Join.{rounded, trimmedBy, innerJoin, turnOf, joinBy, joinOf}
 use Rattle.joins.proofs.Bound.{connector-bound}
 
@@ -82,7 +83,7 @@ unfolding joinOf
 made current next shared σ = by-turn (turnOf current next σ) current next shared σ
 
 -- ---- the connector's bulge
-zero-bound : (offset : Float) → ConnectorBound offset zero
+pub zero-bound : (offset : Float) → ConnectorBound offset zero
 unfolding absOf lt le ofBits
 zero-bound offset = record { small = λ n. tt; notBothAbove = λ o h. h; notBothBelow = λ o h. h }
 
@@ -150,6 +151,50 @@ near-one-point current next shared σ = by (near (endOf current) (startOf next) 
         → joinOf current next shared σ .«current_end» ≡ joinOf current next shared σ .«next_start»
     by true n h = unfold joinOf turnOf when_give_else_ in rw n
     by false n h = made-near (σ .eps) n (made current next shared σ) h
+
+-- a boundary whose ends are within ε is of one of the two classes that have one point
+made-near-class : {a b shared : Vector2} {offset : Float} {j : JoinBoundary} (ε : Float) → near a b ε ≡ false → Made a b shared offset j
+    → near (j .«current_end») (j .«next_start») ε ≡ true → isOnePoint (classOf (j .cause)) ≡ true
+unfolding rounded
+made-near-class ε n coincident h = refl
+made-near-class ε n (cut p s t) h = refl
+made-near-class ε n outer h = absurd (false≢true (sym n ∙ h))
+made-near-class ε n reversal h = absurd (false≢true (sym n ∙ h))
+made-near-class ε n (gap c g) h = absurd (false≢true (sym n ∙ h))
+
+pub near-class : (current next : RawOffsetSeg) (shared : Vector2) (σ : Settings) →
+    near (joinOf current next shared σ .«current_end») (joinOf current next shared σ .«next_start») (σ .eps) ≡ true → isOnePoint (classOf (joinOf current next shared σ .cause)) ≡ true
+near-class current next shared σ = by (near (endOf current) (startOf next) (σ .eps)) refl
+  where
+    by : (t : Bool) → near (endOf current) (startOf next) (σ .eps) ≡ t
+        → near (joinOf current next shared σ .«current_end») (joinOf current next shared σ .«next_start») (σ .eps) ≡ true
+        → isOnePoint (classOf (joinOf current next shared σ .cause)) ≡ true
+    by true n h = unfold joinOf turnOf when_give_else_ in rw n
+    by false n h = made-near-class (σ .eps) n (made current next shared σ) h
+
+-- 000's join has no tip
+gap-unpointed : (c : JoinCause) → isGap (classOf c) ≡ true → isPointed c ≡ false
+gap-unpointed Cause.Coincident g = refl
+gap-unpointed Cause.Met g = refl
+gap-unpointed Cause.OuterTurn g = refl
+gap-unpointed Cause.OuterPoint g = absurd (false≢true g)
+gap-unpointed Cause.Reversal g = refl
+gap-unpointed Cause.CollapsedSide g = refl
+gap-unpointed Cause.NoMeeting g = refl
+gap-unpointed Cause.CandidatesMissed g = refl
+gap-unpointed Cause.ZeroTangent g = refl
+gap-unpointed Cause.SameDirection g = refl
+
+made-unpointed : {a b shared : Vector2} {offset : Float} {j : JoinBoundary} → Made a b shared offset j → isPointed (j .cause) ≡ false
+unfolding rounded
+made-unpointed coincident = refl
+made-unpointed (cut p s t) = refl
+made-unpointed outer = refl
+made-unpointed reversal = refl
+made-unpointed (gap c g) = gap-unpointed c g
+
+pub join-unpointed : (current next : RawOffsetSeg) (shared : Vector2) (σ : Settings) → isPointed (joinOf current next shared σ .cause) ≡ false
+join-unpointed current next shared σ = made-unpointed (made current next shared σ)
 
 -- ---- a collapsed side: 000's unreachable arm
 pub collapsed-never-meets : (current next : RawOffsetSeg) (shared : Vector2) (ε : Float) →

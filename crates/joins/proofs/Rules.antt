@@ -70,6 +70,7 @@ unmet : (c : JoinCause) (r : ArcRule) → (c ≡ Cause.Met → ⊥) → ofMeetin
 unmet Cause.Coincident r n = refl
 unmet Cause.Met r n = absurd (n refl)
 unmet Cause.OuterTurn r n = refl
+unmet Cause.OuterPoint r n = refl
 unmet Cause.Reversal r n = refl
 unmet Cause.CollapsedSide r n = refl
 unmet Cause.NoMeeting r n = refl

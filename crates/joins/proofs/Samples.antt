@@ -11,6 +11,7 @@ use Rattle.vectors.specs.Plane.{_⊞_, _⊟_, _⊡_, dot, cross, lengthSquared,
 use Rattle.intersections.specs.Lines.{inSpan, lineLine}
 use Rattle.intersections.specs.Points.{pointAt}
 use Rattle.segments.specs.declared.RawOffsetSeg.{RawOffsetSeg}
+use Rattle.segments.specs.Modes.{roundBy}
 use Rattle.segments.specs.declared.RawOffsetSeg.the-variants.{Line, Collapsed}
 use Rattle.meetings.specs.Meetings.{lineLineMeeting, clampParam, meetingPoint}
 use Rattle.joins.specs.declared.JoinCause.the-variants as Cause
@@ -58,7 +59,7 @@ abbrev collapsed : Vector2 → Vector2 → Vector2 → Vector2 → RawOffsetSeg
 collapsed a b t u = Collapsed (record { start = a; end = b; «start_tangent» = t; «end_tangent» = u })
 
 abbrev join : RawOffsetSeg → RawOffsetSeg → Vector2 → Float → JoinBoundary
-join current next shared offset = joinOf current next shared (record { offset = offset; eps = f 0x3ee4f8b588e368f1 })
+join current next shared offset = joinOf current next shared (roundBy offset (f 0x3ee4f8b588e368f1))
 
 joins : join (line (at zero one) (at four one)) (line (at four one) (at five one)) (at four zero) one ≡ straight Cause.Coincident (at four one) (at four one)
     × join (line (at zero one) (at four one)) (line (at three zero) (at three four)) (at four zero) one ≡ trimmed (at three one) (f 0x3fe8000000000000) (f 0x3fd0000000000000)

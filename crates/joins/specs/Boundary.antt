@@ -1,5 +1,5 @@
 -- The boundary between two offset segments: its cause, where the current span ends and the next one starts, and the connector between them (000's JoinBoundary, with
--- the cause for the class). No rule is told as yet: `ruledJoin` (Rules.antt) tells them. Definitions only.
+-- the cause for the class, and its tip: where it has none, its next start). No rule is told as yet: `ruledJoin` (Rules.antt) tells them. Definitions only.
 use lib.Ieee.{Float}
 use Rattle.floats.specs.Binary64.{zero, one}
 use Rattle.vectors.specs.declared.Vector2.{Vector2}
@@ -19,6 +19,7 @@ connected cause a b bulge = record {
   «next_start» = b;
   «next_param» = zero;
   «connector_bulge» = bulge;
+  tip = b;
 }
 
 -- 000's line_connection_boundary: a straight connector
@@ -36,4 +37,5 @@ trimmed p s t = record {
   «next_start» = p;
   «next_param» = t;
   «connector_bulge» = zero;
+  tip = p;
 }

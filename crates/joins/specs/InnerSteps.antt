@@ -84,6 +84,7 @@ abbrev pub classOf : JoinCause → JoinClass
 classOf Cause.Coincident = Class.Coincident
 classOf Cause.Met = Class.Trimmed
 classOf Cause.OuterTurn = Class.OuterRound
+classOf Cause.OuterPoint = Class.OuterRound
 classOf Cause.Reversal = Class.ReversalRound
 classOf Cause.CollapsedSide = Class.InvalidInnerGap
 classOf Cause.NoMeeting = Class.InvalidInnerGap

@@ -10,7 +10,7 @@ use Rattle.meetings.specs.declared.ArcRule.{ArcRule}
 use Rattle.meetings.specs.declared.ArcRule.the-variants.{NoRule}
 use Rattle.meetings.specs.Rules.{ruleAt, FirstPassed, Grants}
 use Rattle.joins.specs.declared.JoinCause.{JoinCause}
-use Rattle.joins.specs.declared.JoinCause.the-variants.{Coincident, Met, OuterTurn, Reversal, CollapsedSide, NoMeeting, CandidatesMissed, ZeroTangent, SameDirection}
+use Rattle.joins.specs.declared.JoinCause.the-variants.{Coincident, Met, OuterTurn, OuterPoint, Reversal, CollapsedSide, NoMeeting, CandidatesMissed, ZeroTangent, SameDirection}
 use Rattle.joins.specs.declared.JoinBoundary.{JoinBoundary}
 use Rattle.joins.specs.Join.{joinOf}
 
@@ -25,6 +25,7 @@ telling r q j = record {
   «next_start» = j .«next_start»;
   «next_param» = j .«next_param»;
   «connector_bulge» = j .«connector_bulge»;
+  tip = j .tip;
 }
 
 -- a rule is told of a meeting alone
@@ -32,6 +33,7 @@ abbrev pub ofMeeting : JoinCause → ArcRule → ArcRule
 ofMeeting Coincident r = NoRule
 ofMeeting Met r = r
 ofMeeting OuterTurn r = NoRule
+ofMeeting OuterPoint r = NoRule
 ofMeeting Reversal r = NoRule
 ofMeeting CollapsedSide r = NoRule
 ofMeeting NoMeeting r = NoRule

@@ -1,7 +1,7 @@
 // The join of two neighbouring offset segments.
 ghost use mathlib.Core.Path.{_≡_};
 ghost use lib.Ieee.{le};
-ghost use Rattle.floats.specs.Choice.{_or_};
+ghost use Rattle.floats.specs.Choice.{when_give_else_, _or_};
 ghost use Rattle.segments.specs.declared.RawOffsetSeg.the-variants.{Line, Arc};
 ghost use Rattle.joins.specs.declared.JoinCause.the-variants.{CollapsedSide};
 ghost use Rattle.joins.specs.Boundary.{connected, straight};
@@ -9,15 +9,19 @@ ghost use Rattle.joins.specs.Rules.{ruledBoundary, ruledJoin, forgotten}
 ghost use Rattle.joins.specs.InnerSteps.{classOf, isGap};
 ghost use Rattle.joins.specs.Connector.{clampCos, clampSin, bulgeSize, connectorBulge};
 ghost use Rattle.joins.specs.Join.{tangentTurn, turnOf, innerJoin};
+ghost use Rattle.joins.specs.Corner.{isOuterTurn, isPointed, withinRatio, pointedAt, pointedIf, cornerBy, cornerOf, cornered};
 ghost use Rattle.joins.specs.InnerSteps.{lastTurn, settledBy, cutAt, cutBy, joined, seenArc, seenSeg, Joins};
+ghost use Rattle.segments.specs.Modes.{arePointed};
 ghost use Rattle.segments.specs.InnerSteps.{fullSeg, Marked};
 ghost use Rattle.meetings.specs.InnerSteps.{notSeen, angled};
+use intersections::ProlongedIntr;
 use meetings::ArcRule;
 use meetings::Meeting;
 use meetings::Met;
 use meetings::SeenArc;
 use segments::CarriedArc;
 use segments::CarriedSeg;
+use segments::Corners;
 use segments::RawOffsetLine;
 use segments::Settings;
 use vectors::Vector2;
@@ -46,6 +50,7 @@ pub enum JoinCause {
     Coincident,
     Met,
     OuterTurn,
+    OuterPoint,
     Reversal,
     CollapsedSide,
     NoMeeting,
@@ -62,6 +67,7 @@ impl JoinCause {
             JoinCause::Coincident => JoinClass::Coincident,
             JoinCause::Met => JoinClass::Trimmed,
             JoinCause::OuterTurn => JoinClass::OuterRound,
+            JoinCause::OuterPoint => JoinClass::OuterRound,
             JoinCause::Reversal => JoinClass::ReversalRound,
             JoinCause::CollapsedSide => JoinClass::InvalidInnerGap,
             JoinCause::NoMeeting => JoinClass::InvalidInnerGap,
@@ -70,10 +76,46 @@ impl JoinCause {
             JoinCause::SameDirection => JoinClass::InvalidDegenerateGap,
         }
     }
+
+    // An outer corner, round as yet.
+    fn is_outer_turn(self) -> bool
+        ensures { λ r. ⌜ r ≡ isOuterTurn self ⌝ }
+    {
+        match self {
+            JoinCause::Coincident => false,
+            JoinCause::Met => false,
+            JoinCause::OuterTurn => true,
+            JoinCause::OuterPoint => false,
+            JoinCause::Reversal => false,
+            JoinCause::CollapsedSide => false,
+            JoinCause::NoMeeting => false,
+            JoinCause::CandidatesMissed => false,
+            JoinCause::ZeroTangent => false,
+            JoinCause::SameDirection => false,
+        }
+    }
+
+    // An outer corner with a tip.
+    pub fn is_pointed(self) -> bool
+        ensures { λ r. ⌜ r ≡ isPointed self ⌝ }
+    {
+        match self {
+            JoinCause::Coincident => false,
+            JoinCause::Met => false,
+            JoinCause::OuterTurn => false,
+            JoinCause::OuterPoint => true,
+            JoinCause::Reversal => false,
+            JoinCause::CollapsedSide => false,
+            JoinCause::NoMeeting => false,
+            JoinCause::CandidatesMissed => false,
+            JoinCause::ZeroTangent => false,
+            JoinCause::SameDirection => false,
+        }
+    }
 }
 
 // Where two spans end and start, and why. Where they met, the rule by which each let the point in, if it
-// is an arc.
+// is an arc. Its tip, if it has one, and else where the next span starts.
 pub struct JoinBoundary {
     pub cause: JoinCause,
     pub current_rule: ArcRule,
@@ -83,6 +125,7 @@ pub struct JoinBoundary {
     pub next_start: Vector2,
     pub next_param: f64,
     pub connector_bulge: f64,
+    pub tip: Vector2,
 }
 
 // A boundary that needs no intersection, or an inner join, which does.
@@ -110,6 +153,7 @@ impl JoinBoundary {
             next_start,
             next_param: 0.0,
             connector_bulge,
+            tip: next_start,
         }
     }
 
@@ -136,6 +180,7 @@ impl JoinBoundary {
             next_start: point,
             next_param: meeting.next_param,
             connector_bulge: 0.0,
+            tip: point,
         }
     }
 
@@ -146,6 +191,7 @@ impl JoinBoundary {
         let cause = self.cause;
         let current_end = self.current_end;
         let next_start = self.next_start;
+        let tip = self.tip;
         JoinBoundary {
             cause,
             current_rule: ArcRule::NoRule,
@@ -155,6 +201,26 @@ impl JoinBoundary {
             next_start,
             next_param: self.next_param,
             connector_bulge: self.connector_bulge,
+            tip,
+        }
+    }
+
+    // By a tip, with straight connectors.
+    fn pointed(self, tip: Vector2) -> JoinBoundary
+        ensures { λ r. ⌜ r ≡ pointedAt tip self ⌝ }
+    {
+        let current_end = self.current_end;
+        let next_start = self.next_start;
+        JoinBoundary {
+            cause: JoinCause::OuterPoint,
+            current_rule: ArcRule::NoRule,
+            next_rule: ArcRule::NoRule,
+            current_end,
+            current_param: self.current_param,
+            next_start,
+            next_param: self.next_param,
+            connector_bulge: 0.0,
+            tip,
         }
     }
 
@@ -166,6 +232,7 @@ impl JoinBoundary {
             JoinCause::Coincident => false,
             JoinCause::Met => false,
             JoinCause::OuterTurn => false,
+            JoinCause::OuterPoint => false,
             JoinCause::Reversal => false,
             JoinCause::CollapsedSide => true,
             JoinCause::NoMeeting => true,
@@ -482,4 +549,136 @@ pub fn analyze_join(
         return unseen(boundary);
     }
     inner_join(current, seen, next, shared_source_vertex, settings.eps)
+}
+
+// At most `ratio` times the offset's size from the shared vertex, by squares.
+fn within_ratio(tip: Vector2, shared_source_vertex: Vector2, ratio: f64, offset: f64) -> bool
+    ensures { λ r. ⌜ r ≡ withinRatio ratio offset «shared_source_vertex» tip ⌝ }
+{
+    let limit = ratio * offset;
+    intersections::dist_squared(tip, shared_source_vertex) <= limit * limit
+}
+
+fn pointed_if_near(
+    boundary: JoinBoundary,
+    tip: Vector2,
+    shared_source_vertex: Vector2,
+    ratio: f64,
+    offset: f64,
+) -> JoinBoundary
+    ensures { λ r. ⌜ r ≡ pointedIf ratio offset «shared_source_vertex» tip boundary ⌝ }
+{
+    if within_ratio(tip, shared_source_vertex, ratio, offset) {
+        return boundary.pointed(tip);
+    }
+    boundary
+}
+
+// The tip is where the two lines, prolonged, meet, if they do; it may lie anywhere on them.
+fn corner_of_lines(
+    boundary: JoinBoundary,
+    current: RawOffsetLine,
+    next: RawOffsetLine,
+    shared_source_vertex: Vector2,
+    ratio: f64,
+    settings: Settings,
+) -> JoinBoundary
+    ensures { λ r. ⌜ r ≡ cornerOf (Line current) (Line next) «shared_source_vertex» ratio settings boundary ⌝ }
+{
+    let start = current.start;
+    let end = current.end;
+    let crossed = intersections::prolonged_intr(start, end, next.start, next.end, settings.eps);
+    match crossed {
+        ProlongedIntr::NoIntersect => boundary,
+        ProlongedIntr::At { seg1_t } => pointed_if_near(
+            boundary,
+            intersections::point_from_parametric(start, end, seg1_t),
+            shared_source_vertex,
+            ratio,
+            settings.offset,
+        ),
+    }
+}
+
+fn corner_from_line(
+    boundary: JoinBoundary,
+    current: RawOffsetLine,
+    next: CarriedSeg,
+    shared_source_vertex: Vector2,
+    ratio: f64,
+    settings: Settings,
+) -> JoinBoundary
+    ensures { λ r. ⌜ r ≡ cornerOf (Line current) (fullSeg next) «shared_source_vertex» ratio settings boundary ⌝ }
+{
+    match next {
+        CarriedSeg::Line(line) => corner_of_lines(
+            boundary,
+            current,
+            line,
+            shared_source_vertex,
+            ratio,
+            settings,
+        ),
+        CarriedSeg::Arc(_) => boundary,
+        CarriedSeg::Collapsed(_) => boundary,
+    }
+}
+
+// In the pointed mode an outer corner of two lines gets a tip, where that is near enough.
+fn pointed_corner(
+    boundary: JoinBoundary,
+    current: CarriedSeg,
+    next: CarriedSeg,
+    shared_source_vertex: Vector2,
+    ratio: f64,
+    settings: Settings,
+) -> JoinBoundary
+    ensures { λ r. ⌜ r ≡ when isOuterTurn (boundary .cause) give cornerOf (fullSeg current) (fullSeg next) «shared_source_vertex» ratio settings boundary else boundary ⌝ }
+{
+    let cause = boundary.cause;
+    if !cause.is_outer_turn() {
+        return boundary;
+    }
+    match current {
+        CarriedSeg::Line(line) => corner_from_line(
+            boundary,
+            line,
+            next,
+            shared_source_vertex,
+            ratio,
+            settings,
+        ),
+        CarriedSeg::Arc(_) => boundary,
+        CarriedSeg::Collapsed(_) => boundary,
+    }
+}
+
+// The boundary of a join in the mode that is asked for. The mode is told beside the settings too: a
+// compiler follows a bool from call to call, and leaves the other mode out.
+pub fn outer_corner(
+    boundary: JoinBoundary,
+    current: CarriedSeg,
+    next: CarriedSeg,
+    shared_source_vertex: Vector2,
+    settings: Settings,
+    pointed: bool,
+) -> JoinBoundary
+    requires { ⌜ pointed ≡ arePointed (settings .corners) ⌝ }
+    ensures { λ r. ⌜ r ≡ cornered (fullSeg current) (fullSeg next) «shared_source_vertex» settings boundary ⌝ }
+{
+    if !pointed {
+        return boundary;
+    }
+    let corners = settings.corners;
+    match corners {
+        Corners::Round => boundary,
+        Corners::Pointed { ratio } => pointed_corner(
+            boundary,
+            current,
+            next,
+            shared_source_vertex,
+            ratio,
+            settings,
+        ),
+    }
 }
