@@ -8,7 +8,7 @@ use Rattle.segments.specs.declared.RawOffsetSeg.{RawOffsetSeg}
 use Rattle.segments.specs.Segment.{isCollapsed}
 use Rattle.segments.specs.InnerSteps.{spanIsInvalid}
 use Rattle.joins.specs.declared.JoinCause.{JoinCause}
-use Rattle.joins.specs.declared.JoinCause.the-variants.{Coincident, Met, OuterTurn, Reversal, CollapsedSide, NoMeeting, CandidatesMissed, ZeroTangent, SameDirection}
+use Rattle.joins.specs.declared.JoinCause.the-variants.{Coincident, Met, OuterTurn, OuterPoint, Reversal, CollapsedSide, NoMeeting, CandidatesMissed, ZeroTangent, SameDirection}
 use Rattle.joins.specs.InnerSteps.{classOf, isGap}
 use Rattle.moves.specs.declared.Reason.the-variants as Reason
 use Rattle.moves.specs.Reason.{spanReason, connectorReason, isInvalid}
@@ -27,6 +27,7 @@ pub connector-flag : (c : JoinCause) → isInvalid (connectorReason c) ≡ isGap
 connector-flag Coincident = refl
 connector-flag Met = refl
 connector-flag OuterTurn = refl
+connector-flag OuterPoint = refl
 connector-flag Reversal = refl
 connector-flag CollapsedSide = refl
 connector-flag NoMeeting = refl

@@ -11,3 +11,4 @@ pub mod Closing
 pub mod Drawn
 pub mod Flags
 pub mod Strokes
+pub mod Tips

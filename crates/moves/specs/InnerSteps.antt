@@ -7,10 +7,13 @@ use mathlib.Core.Bool.{Bool, true, false, not}
 use lib.IntN.{pos}
 use lib.ListN.{length}
 use lib.Ieee.{Float, nan, fin, isNan}
+use Rattle.floats.specs.Binary64 as B
 use Rattle.floats.specs.Choice.{when_give_else_}
 use Rattle.vectors.specs.Plane.{near}
 use Rattle.vectors.specs.declared.Vector2.{Vector2}
 use Rattle.segments.specs.Vertex.{vertexAt}
+use Rattle.joins.specs.declared.JoinBoundary.{JoinBoundary}
+use Rattle.joins.specs.Corner.{isPointed}
 use Rattle.moves.specs.declared.Move.{Move}
 use Rattle.moves.specs.declared.Pen.{Pen}
 use Rattle.moves.specs.declared.Stroke.{Stroke}
@@ -42,6 +45,13 @@ strokes k p (m ∷ ms) = strokeOf (record { last = p; number = record { 0 = k } 
 -- a move with another bulge
 abbrev pub withBulge : Float → Move → Move
 withBulge b m = record { end = m .end; bulge = b; reason = m .reason; origin = m .origin }
+
+-- the move to a tip, before the connector m; that of a join, if it has one
+abbrev pub tipBefore : Move → Vector2 → Move
+tipBefore m p = record { end = p; bulge = B.zero; reason = m .reason; origin = m .origin }
+
+unfoldable pub tipFirst : JoinBoundary → Move → List Move
+tipFirst j m = when isPointed (j .cause) give tipBefore m (j .tip) ∷ [] else []
 
 -- a doubt: +0 where a test holds, and else a NaN
 abbrev pub doubtOf : Bool → Float

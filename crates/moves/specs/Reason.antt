@@ -8,10 +8,10 @@ use Rattle.segments.specs.Segment.{isCollapsed}
 use Rattle.joins.specs.declared.JoinCause.{JoinCause}
 use Rattle.joins.specs.declared.JoinCause.the-variants as Cause
 use Rattle.moves.specs.declared.Reason.{Reason}
-use Rattle.moves.specs.declared.Reason.the-variants.{InOrder, TurnedBack, CollapsedArc, Round, Reversal, Meeting, CollapsedSide, NoMeeting, CandidatesMissed, ZeroTangent, SameDirection, Copied}
+use Rattle.moves.specs.declared.Reason.the-variants.{InOrder, TurnedBack, CollapsedArc, Round, Reversal, Meeting, CollapsedSide, NoMeeting, CandidatesMissed, ZeroTangent, SameDirection, Copied, Pointed}
 use Rattle.moves.specs.declared.Move.{Move}
 
--- as callers get it (02's 2026-01)
+-- as callers get it (02's 2026-01, and 2026-13 the last)
 abbrev pub reasonNumber : Reason → ℕ
 reasonNumber InOrder = 1
 reasonNumber TurnedBack = 2
@@ -25,6 +25,7 @@ reasonNumber CandidatesMissed = 9
 reasonNumber ZeroTangent = 10
 reasonNumber SameDirection = 11
 reasonNumber Copied = 12
+reasonNumber Pointed = 13
 
 -- a span: collapsed goes before turned back, which is an end parameter at most the start parameter
 unfoldable pub spanReason : RawOffsetSeg → Float → Float → Reason
@@ -35,6 +36,7 @@ abbrev pub connectorReason : JoinCause → Reason
 connectorReason Cause.Coincident = Meeting
 connectorReason Cause.Met = Meeting
 connectorReason Cause.OuterTurn = Round
+connectorReason Cause.OuterPoint = Pointed
 connectorReason Cause.Reversal = Reversal
 connectorReason Cause.CollapsedSide = CollapsedSide
 connectorReason Cause.NoMeeting = NoMeeting
@@ -55,6 +57,7 @@ isInvalid CandidatesMissed = true
 isInvalid ZeroTangent = true
 isInvalid SameDirection = true
 isInvalid Copied = false
+isInvalid Pointed = false
 
 abbrev pub invalidMove : Move → Bool
 invalidMove m = isInvalid (m .reason)

@@ -8,7 +8,7 @@ ghost use Rattle.moves.specs.Reason.{reasonNumber, spanReason, connector
 ghost use Rattle.moves.specs.Made.{segmentOf, isConnector, spanMove, connectorMove};
 ghost use Rattle.moves.specs.Origins.{codeOf, originOf};
 ghost use Rattle.moves.specs.Drawing.{finiteVertex, emptyResult};
-ghost use Rattle.moves.specs.InnerSteps.{penAt, penAfter, stepOf, withBulge, doubtOf};
+ghost use Rattle.moves.specs.InnerSteps.{penAt, penAfter, stepOf, withBulge, tipBefore, doubtOf};
 use joins::JoinBoundary;
 use joins::JoinCause;
 use segments::CarriedSeg;
@@ -79,6 +79,7 @@ pub enum Reason {
     ZeroTangent,
     SameDirection,
     Copied,
+    Pointed,
 }
 
 impl Reason {
@@ -99,6 +100,7 @@ impl Reason {
             Reason::ZeroTangent => 10,
             Reason::SameDirection => 11,
             Reason::Copied => 12,
+            Reason::Pointed => 13,
         }
     }
 
@@ -118,6 +120,7 @@ impl Reason {
             Reason::ZeroTangent => true,
             Reason::SameDirection => true,
             Reason::Copied => false,
+            Reason::Pointed => false,
         }
     }
 
@@ -142,6 +145,7 @@ impl Reason {
             JoinCause::Coincident => Reason::Meeting,
             JoinCause::Met => Reason::Meeting,
             JoinCause::OuterTurn => Reason::Round,
+            JoinCause::OuterPoint => Reason::Pointed,
             JoinCause::Reversal => Reason::Reversal,
             JoinCause::CollapsedSide => Reason::CollapsedSide,
             JoinCause::NoMeeting => Reason::NoMeeting,
@@ -193,6 +197,20 @@ impl Move {
         Move {
             end,
             bulge: boundary.connector_bulge,
+            reason,
+            origin,
+        }
+    }
+
+    // Before this connector, where its join has a tip: straight, to that tip.
+    pub fn to_tip(self, tip: Vector2) -> Move
+        ensures { λ r. ⌜ r ≡ tipBefore self tip ⌝ }
+    {
+        let reason = self.reason;
+        let origin = self.origin;
+        Move {
+            end: tip,
+            bulge: 0.0,
             reason,
             origin,
         }

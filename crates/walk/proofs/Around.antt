@@ -17,16 +17,19 @@ use Rattle.joins.specs.declared.JoinBoundary.{JoinBoundary}
 use Rattle.joins.specs.declared.JoinCause.the-variants.{Coincident}
 use Rattle.joins.specs.Boundary.{straight}
 use Rattle.joins.specs.Rules.{ruledJoin}
-use Rattle.joins.proofs.Made.{near-one-point}
+use Rattle.joins.specs.Corner.{cornered}
+use Rattle.joins.proofs.Corner.{corner-one-point, near-unpointed}
 use Rattle.moves.specs.declared.Move.{Move}
 use Rattle.moves.specs.declared.Pen.{Pen}
-use Rattle.moves.specs.Made.{spanMove, connectorMove}
+use Rattle.moves.specs.declared.Stroke.{Stroke}
+use Rattle.moves.specs.Made.{spanMove, connectorMove, connectorMoves}
 use Rattle.moves.specs.Drawing.{moveEnd, kept, lastPoint}
 use Rattle.moves.specs.InnerSteps.{penAt, stepOf, strokes}
 use Rattle.moves.proofs.Kept as K
-use Rattle.walk.specs.Walk.{connectorMoves, joinAt, openLast, closedLast, lastVertex, closingJoin, walkStart, walkMoves}
-use Rattle.walk.specs.InnerSteps.{Standing, Stood, standingAt, firstEntry, entering, afterTurn, turnTo, spanTo, lastSpan, drawnBy, turnStrokes, penTurned, advance, goes, drawnOn}
-use Rattle.walk.proofs.Turning.{Draws, one-drawn, two-drawn, led, lastOf, walk-drawn}
+use Rattle.moves.proofs.Tips.{no-tip}
+use Rattle.walk.specs.Walk.{joinAt, openLast, closedLast, lastVertex, closingJoin, walkStart, walkMoves}
+use Rattle.walk.specs.InnerSteps.{Standing, Stood, standingAt, firstEntry, entering, afterTurn, turnTo, spanTo, lastSpan, drawnBy, strokesBy, penBy, advance, goes, drawnOn}
+use Rattle.walk.proofs.Turning.{Draws, one-drawn, row-drawn, led-undrawn, led, lastOf, walk-drawn}
 
 module _ (σ : Settings) where
   -- ---- once led in, it stays so
@@ -45,8 +48,8 @@ module _ (σ : Settings) where
     open-first = refl
 
     open-first-drawn : drawnOn false σ (b ∷ vs) (standingAt a 1) ≡ drawnOn false σ vs first
-    unfolding first drawnOn advance standingAt turnTo afterTurn entering firstEntry drawnBy when_give_else_ _and_
-    open-first-drawn = refl
+    unfolding first drawnOn advance standingAt turnTo afterTurn entering firstEntry when_give_else_
+    open-first-drawn = ap (λ (s : List Stroke). s ++ drawnOn false σ vs first) (led-undrawn 0 _ _ (σ .eps))
 
     pub open-led : goes false σ (b ∷ vs) (standingAt a 1) .leading ≡ 0
     unfolding first
@@ -86,22 +89,23 @@ module _ (σ : Settings) where
     span : Vector2 → Move
     span e = spanTo w e (k .«current_param»)
 
-    closing-kept : (p : Vector2) → kept (σ .eps) p (span (k .«current_end») ∷ connectorMove (w .source .0) k ∷ []) ≡ kept (σ .eps) p (lastOf (closedLast k (σ .eps)) w)
-    unfolding span closedLast connectorMoves joinAt spanMove connectorMove
+    closing-kept : (p : Vector2) → kept (σ .eps) p (span (k .«current_end») ∷ connectorMoves (w .source .0) k) ≡ kept (σ .eps) p (lastOf (closedLast k (σ .eps)) w)
+    unfolding span closedLast joinAt spanMove connectorMove
     closing-kept p = by (near (k .«current_end») (k .«next_start») (σ .eps)) refl
       where
         by : (n : Bool) → near (k .«current_end») (k .«next_start») (σ .eps) ≡ n
-            → kept (σ .eps) p (span (k .«current_end») ∷ connectorMove (w .source .0) k ∷ [])
-            ≡ kept (σ .eps) p (when n give span (k .«next_start») ∷ [] else span (k .«current_end») ∷ connectorMove (w .source .0) k ∷ [])
+            → kept (σ .eps) p (span (k .«current_end») ∷ connectorMoves (w .source .0) k)
+            ≡ kept (σ .eps) p (when n give span (k .«next_start») ∷ [] else span (k .«current_end») ∷ connectorMoves (w .source .0) k)
         by true h =
-            let e = near-one-point (offsetSeg l a (σ .offset)) (offsetSeg a b (σ .offset)) (posOf a) σ h in
-            unfold when_give_else_ in dropped p (span (k .«current_end»)) (connectorMove (w .source .0) k) e h ∙ ap (λ (x : Vector2). kept (σ .eps) p (span x ∷ [])) e
+            let e = corner-one-point (offsetSeg l a (σ .offset)) (offsetSeg a b (σ .offset)) (posOf a) σ h in
+            let n = no-tip (w .source .0) k (near-unpointed (offsetSeg l a (σ .offset)) (offsetSeg a b (σ .offset)) (posOf a) σ h) in
+            unfold when_give_else_ in ap (λ (ms : List Move). kept (σ .eps) p (span (k .«current_end») ∷ ms)) n ∙ dropped p (span (k .«current_end»)) (connectorMove (w .source .0) k) e h ∙ ap (λ (x : Vector2). kept (σ .eps) p (span x ∷ [])) e
         by false h = unfold when_give_else_ in refl
 
-    closing-drawn : (pen : Pen) → let c = connectorMove (w .source .0) k in
-        Draws (σ .eps) pen (lastOf (closedLast k (σ .eps)) w) (turnStrokes 0 pen (span (k .«current_end»)) c (σ .eps)) (penTurned pen (span (k .«current_end»)) c (σ .eps))
+    closing-drawn : (pen : Pen) → let ms = span (k .«current_end») ∷ connectorMoves (w .source .0) k in
+        Draws (σ .eps) pen (lastOf (closedLast k (σ .eps)) w) (strokesBy 0 pen ms (σ .eps)) (penBy pen ms (σ .eps))
     closing-drawn pen =
-        let d = two-drawn (σ .eps) pen _ _ in
+        let d = row-drawn (σ .eps) pen _ in
         let e = closing-kept (pen .last) in
         record { drawn = d .drawn ∙ rw e; left = d .left ∙ rw e }
 
@@ -116,16 +120,17 @@ module _ (σ : Settings) where
 
     -- and the turn that enters there tells the closing join, with its rules
     pub closing-told : let w = goes true σ (a ∷ []) (standingAt (lastVertex b vs) 2) in
-        turnTo (w .walker) b σ .join ≡ ruledJoin (offsetSeg (lastVertex b vs) a (σ .offset)) (offsetSeg a b (σ .offset)) (posOf a) σ
+        let g = offsetSeg (lastVertex b vs) a (σ .offset) in let h = offsetSeg a b (σ .offset) in
+        turnTo (w .walker) b σ .join ≡ cornered g h (posOf a) σ (ruledJoin g h (posOf a) σ)
     unfolding goes advance standingAt turnTo afterTurn
     closing-told = refl
 
     pub closed-undrawn : drawnOn true σ (a ∷ b ∷ []) (standingAt (lastVertex b vs) 2) ≡ []
-    unfolding drawnOn advance standingAt afterTurn drawnBy when_give_else_ _and_
-    closed-undrawn = refl
+    unfolding drawnOn advance standingAt afterTurn
+    closed-undrawn = rw (led-undrawn 1 _ _ (σ .eps), led-undrawn 0 _ _ (σ .eps))
 
     pub closed-drawn : let k = closingJoin σ a b vs in let w = goes true σ (vs ++ a ∷ []) ledIn in let p = walkStart true σ a b vs in
-        drawnOn true σ (vs ++ a ∷ []) ledIn ++ turnStrokes 0 (w .pen) (spanTo (w .walker) (k .«current_end») (k .«current_param»)) (connectorMove (w .walker .source .0) k) (σ .eps)
+        drawnOn true σ (vs ++ a ∷ []) ledIn ++ strokesBy 0 (w .pen) (spanTo (w .walker) (k .«current_end») (k .«current_param») ∷ connectorMoves (w .walker .source .0) k) (σ .eps)
         ≡ strokes 0 p (kept (σ .eps) p (walkMoves true σ a b vs))
     unfolding ledIn walkStart walkMoves when_give_else_ closingJoin span
     closed-drawn =

@@ -2,8 +2,8 @@
 -- rows of its own segment (`made`). Assumes nothing.
 use mathlib.Core.Path.{_≡_, refl, sym, ap, _∙_, subst}
 use mathlib.Core.Logic.{_↔_, inl, inr, ⊎-elim}
-use mathlib.Core.List.{List, [], _∷_, _++_, map, List·Memᴰ, List·Memᴰ·cases-cons, List·Memᴰ·not-nil}
-use mathlib.Core.Bool.{Bool, true, false}
+use mathlib.Core.List.{List, [], _∷_, _++_, map, append-nil, List·Memᴰ, List·Memᴰ·head, List·Memᴰ·tail, List·Memᴰ·cases-cons, List·Memᴰ·not-nil}
+use mathlib.Core.Bool.{Bool, true, false, true≢false}
 use Prim.Native.Nat.{ℕ, suc}
 use native.Mathlib.Nat.{add-zero}
 use native.Mathlib.Numerals.{add-one}
@@ -18,22 +18,28 @@ use Rattle.segments.specs.declared.PlineVertex.{PlineVertex}
 use Rattle.segments.specs.declared.RawOffsetSeg.{RawOffsetSeg}
 use Rattle.segments.specs.declared.RawOffsetSeg.the-variants.{Line, Arc, Collapsed}
 use Rattle.segments.specs.declared.Settings.{Settings}
+use Rattle.segments.specs.Vertex.{posOf}
 use Rattle.segments.specs.Segment.{offsetSeg, startOf, endOf, isCollapsed}
 use Rattle.meetings.specs.declared.Met.{Met}
 use Rattle.meetings.specs.declared.Met.the-variants as Met
 use Rattle.meetings.specs.Meetings.{lineLineMeeting, lineArcMeeting, arcLineMeeting, arcArcMeeting}
 use Rattle.joins.specs.declared.JoinTurn.{JoinTurn}
 use Rattle.joins.specs.declared.JoinTurn.the-variants as Turn
+use Rattle.joins.specs.declared.JoinCause.the-variants.{OuterTurn}
 use Rattle.joins.specs.declared.JoinBoundary.{JoinBoundary}
 use Rattle.joins.specs.Join.{rounded, trimmedBy, innerJoin, turnOf, joinBy, joinOf}
 use Rattle.joins.specs.Rules.{ruledBoundary}
+use Rattle.joins.specs.Corner.{cornered, cornerJoin, Sharp}
 use Rattle.joins.proofs.Made.{collapsed-never-meets}
+use Rattle.joins.proofs.Corner.{Cornered, corner-made, sharp-made, never-both, corner-ends, corner-edges, outer-turn}
+use Rattle.joins.proofs.Corner.Cornered.{same, sharp}
 use Rattle.moves.specs.declared.Move.{Move}
 use Rattle.moves.specs.declared.Reason.{Reason}
-use Rattle.moves.specs.declared.Reason.the-variants.{InOrder, TurnedBack, CollapsedArc, Round, Reversal, Meeting, CollapsedSide, NoMeeting, CandidatesMissed, ZeroTangent, SameDirection, Copied}
+use Rattle.moves.specs.declared.Reason.the-variants.{InOrder, TurnedBack, CollapsedArc, Round, Reversal, Meeting, CollapsedSide, NoMeeting, CandidatesMissed, ZeroTangent, SameDirection, Copied, Pointed}
 use Rattle.moves.specs.Reason.{spanReason, connectorReason}
-use Rattle.moves.specs.Made.{spanMove, connectorMove}
-use Rattle.walk.specs.Walk.{connectorMoves, joinAt, walk, openLast, closedLast, closingJoin, walkMoves}
+use Rattle.moves.specs.Made.{spanMove, connectorMoves}
+use Rattle.moves.proofs.Tips.{connector-facts}
+use Rattle.walk.specs.Walk.{joinAt, walk, openLast, closedLast, lastVertex, closingJoin, walkMoves}
 use Rattle.walk.specs.Spans.{Corner, cornerAt, joinIn, turnsTo, cornersFrom, closingCorner, cornersOf, segsFrom, segsOf, Edge, startAt, endAt, wholeStart, wholeEnd, startsOf, endsOf}
 use Rattle.walk.specs.Branches.{SpanBranch, Searched, ConnectorBranch, Is, Made}
 
@@ -66,6 +72,7 @@ module _ (g : RawOffsetSeg) (from to : Float) where
   span-only ZeroTangent h = absurd h
   span-only SameDirection h = absurd h
   span-only Copied h = absurd h
+  span-only Pointed h = absurd h
 
   pub span↔ : (r : Reason) → (spanReason g from to ≡ r) ↔ SpanBranch r g from to
   span↔ = exactly (λ r. SpanBranch r g from to) (spanReason g from to) span-took span-only
@@ -103,38 +110,90 @@ module _ (σ : Settings) where
   inner-took (Collapsed a) h shared e = (e, unfold _or_ in refl)
 
   module _ (k : Corner) where
+    -- 000's join, which has no tip
     turn-took : (t : JoinTurn) → turnOf (k .current) (k .next) σ ≡ t
+        → (joinBy t (k .current) (k .next) (k .shared) σ .cause ≡ OuterTurn → Sharp (k .current) (k .next) (k .shared) σ → ⊥)
         → ConnectorBranch (connectorReason (joinBy t (k .current) (k .next) (k .shared) σ .cause)) k σ
     unfolding rounded
-    turn-took Turn.Coincident e = inl e
-    turn-took Turn.ZeroTangent e = e
-    turn-took Turn.SameDirection e = e
-    turn-took Turn.Reversal e = e
-    turn-took Turn.Outer e = e
-    turn-took Turn.Inner e = inner-took (k .current) (k .next) (k .shared) e
+    turn-took Turn.Coincident e n = inl e
+    turn-took Turn.ZeroTangent e n = e
+    turn-took Turn.SameDirection e n = e
+    turn-took Turn.Reversal e n = e
+    turn-took Turn.Outer e n = (e, n refl)
+    turn-took Turn.Inner e n = inner-took (k .current) (k .next) (k .shared) e
 
-    connector-took : ConnectorBranch (connectorReason (joinOf (k .current) (k .next) (k .shared) σ .cause)) k σ
+    abbrev unmoded : JoinBoundary
+    unmoded = joinOf (k .current) (k .next) (k .shared) σ
+
+    abbrev its : JoinBoundary
+    its = cornerJoin (k .current) (k .next) (k .shared) σ
+
+    plain-took : (unmoded .cause ≡ OuterTurn → Sharp (k .current) (k .next) (k .shared) σ → ⊥) → ConnectorBranch (connectorReason (unmoded .cause)) k σ
     unfolding joinOf
-    connector-took = turn-took (turnOf (k .current) (k .next) σ) refl
+    plain-took = turn-took (turnOf (k .current) (k .next) σ) refl
 
-    connector-only : (r : Reason) → ConnectorBranch r k σ → connectorReason (joinOf (k .current) (k .next) (k .shared) σ .cause) ≡ r
+    connector-took : ConnectorBranch (connectorReason (its .cause)) k σ
+    unfolding cornerJoin
+    connector-took = by (corner-made (k .current) (k .next) (k .shared) σ unmoded)
+      where
+        by : Cornered (k .current) (k .next) (k .shared) σ unmoded → ConnectorBranch (connectorReason (cornered (k .current) (k .next) (k .shared) σ unmoded .cause)) k σ
+        by (same e) = rw e (plain-took (never-both (k .current) (k .next) (k .shared) σ unmoded e))
+        by (sharp s o e) = rw e (outer-turn (k .current) (k .next) (k .shared) σ o, s)
+
+    outer-is : turnOf (k .current) (k .next) σ ≡ Turn.Outer → unmoded .cause ≡ OuterTurn
     unfolding joinOf rounded
+    outer-is h = rw h
+
+    -- of 000's join; an outer turn's is round
+    plain-only : (r : Reason) → ConnectorBranch r k σ → (r ≡ Pointed → ⊥) → connectorReason (unmoded .cause) ≡ r
+    unfolding joinOf rounded
+    plain-only InOrder h n = absurd h
+    plain-only TurnedBack h n = absurd h
+    plain-only CollapsedArc h n = absurd h
+    plain-only Round h n = rw (h .0)
+    plain-only Reversal h n = rw h
+    plain-only Meeting (inl h) n = rw h
+    plain-only Meeting (inr h) n = rw (h .0, searched (k .current) (k .next) (k .shared) (σ .eps) (Met.At (h .1 .0)) (h .1 .1))
+    plain-only CollapsedSide h n = rw (h .0, collapsed-never-meets (k .current) (k .next) (k .shared) (σ .eps) (h .1))
+    plain-only NoMeeting h n = rw (h .0, searched (k .current) (k .next) (k .shared) (σ .eps) Met.NoMeeting (h .1))
+    plain-only CandidatesMissed h n = rw (h .0, searched (k .current) (k .next) (k .shared) (σ .eps) Met.CandidatesMissed (h .1))
+    plain-only ZeroTangent h n = rw h
+    plain-only SameDirection h n = rw h
+    plain-only Copied h n = absurd h
+    plain-only Pointed h n = absurd (n refl)
+
+    -- a reason whose branch excludes a tip is that of 000's join
+    unsharp : (r : Reason) → ConnectorBranch r k σ → (r ≡ Pointed → ⊥) → (r ≡ Round → ⊥) → Sharp (k .current) (k .next) (k .shared) σ → unmoded .cause ≡ OuterTurn → ⊥
+    unsharp r h n m s o = m (sym (plain-only r h n) ∙ ap connectorReason o)
+
+    kept-plain : (unmoded .cause ≡ OuterTurn → Sharp (k .current) (k .next) (k .shared) σ → ⊥) → its .cause ≡ unmoded .cause
+    unfolding cornerJoin
+    kept-plain n = by (corner-made (k .current) (k .next) (k .shared) σ unmoded)
+      where
+        by : Cornered (k .current) (k .next) (k .shared) σ unmoded → cornered (k .current) (k .next) (k .shared) σ unmoded .cause ≡ unmoded .cause
+        by (same e) = ap (λ (x : JoinBoundary). x .cause) e
+        by (sharp s o e) = absurd (n o s)
+
+    plain : (r : Reason) → ConnectorBranch r k σ → (r ≡ Pointed → ⊥) → (r ≡ Round → ⊥) → connectorReason (its .cause) ≡ r
+    plain r h n m = ap connectorReason (kept-plain (λ o s. unsharp r h n m s o)) ∙ plain-only r h n
+
+    connector-only : (r : Reason) → ConnectorBranch r k σ → connectorReason (its .cause) ≡ r
     connector-only InOrder h = absurd h
     connector-only TurnedBack h = absurd h
     connector-only CollapsedArc h = absurd h
-    connector-only Round h = rw h
-    connector-only Reversal h = rw h
-    connector-only Meeting (inl h) = rw h
-    connector-only Meeting (inr h) = rw (h .0, searched (k .current) (k .next) (k .shared) (σ .eps) (Met.At (h .1 .0)) (h .1 .1))
-    connector-only CollapsedSide h = rw (h .0, collapsed-never-meets (k .current) (k .next) (k .shared) (σ .eps) (h .1))
-    connector-only NoMeeting h = rw (h .0, searched (k .current) (k .next) (k .shared) (σ .eps) Met.NoMeeting (h .1))
-    connector-only CandidatesMissed h = rw (h .0, searched (k .current) (k .next) (k .shared) (σ .eps) Met.CandidatesMissed (h .1))
-    connector-only ZeroTangent h = rw h
-    connector-only SameDirection h = rw h
+    connector-only Round h = ap connectorReason (kept-plain (λ o s. h .1 s)) ∙ plain-only Round h (λ e. true≢false (cc))
+    connector-only Reversal h = plain Reversal h (λ e. true≢false (cc)) (λ e. true≢false (cc))
+    connector-only Meeting h = plain Meeting h (λ e. true≢false (cc)) (λ e. true≢false (cc))
+    connector-only CollapsedSide h = plain CollapsedSide h (λ e. true≢false (cc)) (λ e. true≢false (cc))
+    connector-only NoMeeting h = plain NoMeeting h (λ e. true≢false (cc)) (λ e. true≢false (cc))
+    connector-only CandidatesMissed h = plain CandidatesMissed h (λ e. true≢false (cc)) (λ e. true≢false (cc))
+    connector-only ZeroTangent h = plain ZeroTangent h (λ e. true≢false (cc)) (λ e. true≢false (cc))
+    connector-only SameDirection h = plain SameDirection h (λ e. true≢false (cc)) (λ e. true≢false (cc))
     connector-only Copied h = absurd h
+    connector-only Pointed h = unfold cornerJoin in ap (λ (x : JoinBoundary). connectorReason (x .cause)) (sharp-made (k .current) (k .next) (k .shared) σ unmoded (h .1) (outer-is (h .0)))
 
-    pub connector↔ : (r : Reason) → (connectorReason (joinOf (k .current) (k .next) (k .shared) σ .cause) ≡ r) ↔ ConnectorBranch r k σ
-    connector↔ = exactly (λ r. ConnectorBranch r k σ) (connectorReason (joinOf (k .current) (k .next) (k .shared) σ .cause)) connector-took connector-only
+    pub connector↔ : (r : Reason) → (connectorReason (its .cause) ≡ r) ↔ ConnectorBranch r k σ
+    connector↔ = exactly (λ r. ConnectorBranch r k σ) (connectorReason (its .cause)) connector-took connector-only
 
 -- ---- rows
 
@@ -183,16 +242,34 @@ module _ (closed : Bool) (σ : Settings) (a₀ b₀ : PlineVertex) (vs₀ : List
       and-then _ ms (record { segment = g; start = s; end = e; segment-is = hg; start-is = hs; end-is = he; point = p; is = refl; because = span↔ g (s .param) (e .param) }) on
 
   connector-made : (i : ℕ) (a b c : PlineVertex) (ms : List Move) → Is (cornersOf closed σ a₀ b₀ vs₀) i (cornerAt σ a b c) → AllMade ms → AllMade (connectorMoves i (joinAt σ a b c) ++ ms)
-  unfolding connectorMoves connectorMove joinAt
-  connector-made i a b c ms h on = let k = cornerAt σ a b c in and-then _ ms (record { corner = k; corner-is = h; is = refl; because = connector↔ σ k }) on
+  unfolding joinAt
+  connector-made i a b c ms h on = among-made _ (λ m here. here)
+    where
+      k : Corner
+      k = cornerAt σ a b c
+
+      its : List Move
+      its = connectorMoves i (joinAt σ a b c)
+
+      one-made : (m : Move) → List·Memᴰ m its → Made closed σ a₀ b₀ vs₀ m (m .origin)
+      one-made m here =
+          let f = connector-facts i (joinAt σ a b c) m here in
+          subst (Made closed σ a₀ b₀ vs₀ m) (sym (f .0)) (record { corner = k; corner-is = h; among = here; because = λ r. rw (f .1) (connector↔ σ k r) })
+
+      among-made : (ns : List Move) → ((m : Move) → List·Memᴰ m ns → List·Memᴰ m its) → AllMade (ns ++ ms)
+      among-made [] sub = on
+      among-made (n ∷ ns) sub = and-then n (ns ++ ms) (one-made n (sub n (List·Memᴰ·head refl))) (among-made ns (λ m r. sub m (List·Memᴰ·tail r)))
 
   -- a turn, and the rows after it
   turn-made : {i : ℕ} {a b c : PlineVertex} {s : Edge} {vs : List PlineVertex} (ms : List Move) → On i a b s (c ∷ vs) → AllMade ms
       → let j = joinAt σ a b c in AllMade (spanMove i (offsetSeg a b (σ .offset)) (s .param) (j .«current_end») (j .«current_param») ∷ connectorMoves i j ++ ms)
   unfolding segsFrom cornersFrom joinAt ruledBoundary
   turn-made {i} {a} {b} {c} {s} ms o on =
-      span-made i (offsetSeg a b (σ .offset)) s (endAt (joinIn σ (cornerAt σ a b c))) _ _ (row _ _ (o .segs)) (row _ _ (o .starts)) (row _ _ (o .ends))
-      (connector-made i a b c ms (row _ _ (o .corners)) on)
+      let j = joinAt σ a b c in
+      subst (λ (t : Float). AllMade (spanMove i (offsetSeg a b (σ .offset)) (s .param) (j .«current_end») t ∷ connectorMoves i j ++ ms))
+      (sym (corner-ends (offsetSeg a b (σ .offset)) (offsetSeg b c (σ .offset)) (posOf b) σ .«current_param»))
+      (span-made i (offsetSeg a b (σ .offset)) s (endAt (joinIn σ (cornerAt σ a b c))) _ _ (row _ _ (o .segs)) (row _ _ (o .starts)) (row _ _ (o .ends))
+      (connector-made i a b c ms (row _ _ (o .corners)) on))
 
   pub turned : {i : ℕ} {a b c : PlineVertex} {s : Edge} {vs : List PlineVertex} → On i a b s (c ∷ vs) → On (suc i) b c (startAt (joinIn σ (cornerAt σ a b c))) vs
   unfolding segsFrom cornersFrom
@@ -213,7 +290,10 @@ module _ (closed : Bool) (σ : Settings) (a₀ b₀ : PlineVertex) (vs₀ : List
       → (i : ℕ) (a b : PlineVertex) (s : Edge) (vs : List PlineVertex) → On i a b s vs → AllMade (walk last σ i a b (s .param) vs)
   unfolding walk joinAt ruledBoundary
   walk-made last h i a b s [] o = h i a b s o
-  walk-made last h i a b s (c ∷ vs) o = turn-made _ o (walk-made last h (suc i) b c (startAt (joinIn σ (cornerAt σ a b c))) vs (turned o))
+  walk-made last h i a b s (c ∷ vs) o =
+      turn-made _ o
+      (subst (λ (t : Float). AllMade (walk last σ (suc i) b c t vs)) (sym (corner-ends (offsetSeg a b (σ .offset)) (offsetSeg b c (σ .offset)) (posOf b) σ .«next_param»))
+      (walk-made last h (suc i) b c (startAt (joinIn σ (cornerAt σ a b c))) vs (turned o)))
 
   pub first : On 0 a₀ b₀ (when closed give startAt (joinIn σ (closingCorner σ a₀ b₀ vs₀)) else wholeStart) (turnsTo closed a₀ vs₀)
   unfolding segsOf startsOf endsOf cornersOf
@@ -227,21 +307,36 @@ module _ (σ : Settings) (a₀ b₀ : PlineVertex) (vs₀ : List PlineVertex) wh
 
   closed-last : (i : ℕ) (a b : PlineVertex) (s : Edge) → On true σ a₀ b₀ vs₀ i a b s []
       → AllMade true σ a₀ b₀ vs₀ (closedLast (closingJoin σ a₀ b₀ vs₀) (σ .eps) i (offsetSeg a b (σ .offset)) (s .param))
-  unfolding closedLast closingJoin joinAt ruledBoundary connectorMoves when_give_else_ cornersFrom
-  closed-last i a b s o = by (near (j .«current_end») (j .«next_start») (σ .eps))
+  unfolding closedLast closingJoin joinAt ruledBoundary when_give_else_ cornersFrom
+  closed-last i a b s o = subst (λ (t : Float). AllMade true σ a₀ b₀ vs₀ (last t near-ends)) (sym ends) (by near-ends)
     where
       j : JoinBoundary
       j = closingJoin σ a₀ b₀ vs₀
 
       span : Vector2 → Move
-      span p = spanMove i (offsetSeg a b (σ .offset)) (s .param) p (j .«current_param»)
+      span p = spanMove i (offsetSeg a b (σ .offset)) (s .param) p (lastEdge true σ a₀ b₀ vs₀ .param)
+
+      near-ends : Bool
+      near-ends = near (j .«current_end») (j .«next_start») (σ .eps)
+
+      last : Float → Bool → List Move
+      last t n =
+          when n give spanMove i (offsetSeg a b (σ .offset)) (s .param) (j .«next_start») t ∷ [] else
+          spanMove i (offsetSeg a b (σ .offset)) (s .param) (j .«current_end») t ∷ connectorMoves i j
+
+      ends : j .«current_param» ≡ lastEdge true σ a₀ b₀ vs₀ .param
+      ends = corner-ends (offsetSeg (lastVertex b₀ vs₀) a₀ (σ .offset)) (offsetSeg a₀ b₀ (σ .offset)) (posOf a₀) σ .«current_param»
 
       by : (n : Bool) → AllMade true σ a₀ b₀ vs₀ (when n give span (j .«next_start») ∷ [] else span (j .«current_end») ∷ connectorMoves i j)
       by true = last-made true σ a₀ b₀ vs₀ _ [] o (none true σ a₀ b₀ vs₀)
-      by false = last-made true σ a₀ b₀ vs₀ _ _ o (connector-made true σ a₀ b₀ vs₀ i _ a₀ b₀ [] (row _ _ (o .corners)) (none true σ a₀ b₀ vs₀))
+      by false =
+          last-made true σ a₀ b₀ vs₀ _ _ o
+          (subst (AllMade true σ a₀ b₀ vs₀) (append-nil (connectorMoves i j)) (connector-made true σ a₀ b₀ vs₀ i _ a₀ b₀ [] (row _ _ (o .corners)) (none true σ a₀ b₀ vs₀)))
 
 -- each move of a walk is made of the rows of its own segment, and has its reason as they say
 pub made : (closed : Bool) (σ : Settings) (a b : PlineVertex) (vs : List PlineVertex) (m : Move) → List·Memᴰ m (walkMoves closed σ a b vs) → Made closed σ a b vs m (m .origin)
 unfolding walkMoves closingJoin joinAt ruledBoundary when_give_else_
-made true σ a b vs = walk-made true σ a b vs _ (closed-last σ a b vs) 0 a b _ _ (first true σ a b vs)
+made true σ a b vs =
+    subst (λ (t : Float). AllMade true σ a b vs (walk (closedLast (closingJoin σ a b vs) (σ .eps)) σ 0 a b t (vs ++ a ∷ [])))
+    (sym (corner-ends (offsetSeg (lastVertex b vs) a (σ .offset)) (offsetSeg a b (σ .offset)) (posOf a) σ .«next_param»)) (walk-made true σ a b vs _ (closed-last σ a b vs) 0 a b _ _ (first true σ a b vs))
 made false σ a b vs = walk-made false σ a b vs openLast (open-last σ a b vs) 0 a b _ _ (first false σ a b vs)

@@ -1,7 +1,7 @@
--- Each connector among a walk's moves has a join's bulge, and so is bounded (`connectors-bound`). Assumes nothing.
-use mathlib.Core.Path.{_≡_, sym, ap, _∙_}
+-- Each connector among a walk's moves has a join's bulge or, to a tip, zero, and so is bounded (`connectors-bound`). Assumes nothing.
+use mathlib.Core.Path.{_≡_, sym, ap, _∙_, subst}
 use mathlib.Core.Logic.{⊎-elim}
-use mathlib.Core.List.{List, [], _∷_, _++_, List·Memᴰ, List·Memᴰ·cases-cons, List·Memᴰ·not-nil}
+use mathlib.Core.List.{List, [], _∷_, _++_, append-nil, List·Memᴰ, List·Memᴰ·cases-cons, List·Memᴰ·not-nil}
 use mathlib.Core.Bool.{Bool, true, false, true≢false}
 use Prim.Native.Nat.{ℕ, suc}
 use lib.Ieee.{Float}
@@ -17,12 +17,14 @@ use Rattle.segments.specs.Vertex.{posOf}
 use Rattle.segments.specs.Segment.{offsetSeg}
 use Rattle.joins.specs.declared.JoinBoundary.{JoinBoundary}
 use Rattle.joins.specs.InnerSteps.{ConnectorBound}
-use Rattle.joins.proofs.Made.{join-bound}
+use Rattle.joins.proofs.Made.{zero-bound}
+use Rattle.joins.proofs.Corner.{corner-bound}
 use Rattle.moves.specs.declared.Move.{Move}
 use Rattle.moves.specs.declared.Origin.{Origin}
 use Rattle.moves.specs.declared.Origin.the-variants.{Span, Connector}
-use Rattle.moves.specs.Made.{spanMove, connectorMove}
-use Rattle.walk.specs.Walk.{connectorMoves, joinAt, walk, openLast, closedLast, closingJoin, walkMoves}
+use Rattle.moves.specs.Made.{spanMove, connectorMove, tipMove, connectorMoves}
+use Rattle.moves.proofs.Tips.{either-tip}
+use Rattle.walk.specs.Walk.{joinAt, walk, openLast, closedLast, closingJoin, walkMoves}
 
 no-span : (i k : SourceSegment) → _≡_ {A = Origin} (Span k) (Connector i) → ⊥
 no-span i k e = true≢false (cc)
@@ -41,12 +43,16 @@ module _ (σ : Settings) where
       ⊎-elim (λ (q : m ≡ spanMove k g from end to). absurd (no-span i (record { 0 = k }) (sym (ap (λ (x : Move). x .origin) q) ∙ e))) (λ r. on m i r e) (List·Memᴰ·cases-cons h)
 
   connector : (k : ℕ) (j : JoinBoundary) (ms : List Move) → ConnectorBound (σ .offset) (j .«connector_bulge») → Bounded σ ms → Bounded σ (connectorMoves k j ++ ms)
-  unfolding connectorMove connectorMoves
-  connector k j ms b on m i h e = ⊎-elim (λ (q : m ≡ connectorMove k j). rw (ap (λ (x : Move). x .bulge) q) b) (λ r. on m i r e) (List·Memᴰ·cases-cons h)
+  unfolding connectorMove connectorMoves tipMove
+  connector k j ms b on =
+      either-tip k j (λ (xs : List Move). Bounded σ ((xs ++ connectorMove k j ∷ []) ++ ms)) (λ t. last) (λ t m i h e. ⊎-elim (λ (q : m ≡ tipMove k j). rw (ap (λ (x : Move). x .bulge) q) (zero-bound _)) (λ r. last m i r e) (List·Memᴰ·cases-cons h))
+    where
+      last : Bounded σ (connectorMove k j ∷ ms)
+      last m i h e = ⊎-elim (λ (q : m ≡ connectorMove k j). rw (ap (λ (x : Move). x .bulge) q) b) (λ r. on m i r e) (List·Memᴰ·cases-cons h)
 
   join-at : (a b c : PlineVertex) → ConnectorBound (σ .offset) (joinAt σ a b c .«connector_bulge»)
   unfolding joinAt
-  join-at a b c = join-bound (offsetSeg a b (σ .offset)) (offsetSeg b c (σ .offset)) (posOf b) σ
+  join-at a b c = corner-bound (offsetSeg a b (σ .offset)) (offsetSeg b c (σ .offset)) (posOf b) σ
 
   walk-bound : (last : ℕ → RawOffsetSeg → Float → List Move) → ((i : ℕ) (g : RawOffsetSeg) (t : Float) → Bounded σ (last i g t))
       → (i : ℕ) (a b : PlineVertex) (t : Float) (vs : List PlineVertex) → Bounded σ (walk last σ i a b t vs)
@@ -62,14 +68,14 @@ module _ (σ : Settings) where
   open-last i g t = span i g t _ _ [] none
 
   closed-last : (j : JoinBoundary) → ConnectorBound (σ .offset) (j .«connector_bulge») → (i : ℕ) (g : RawOffsetSeg) (t : Float) → Bounded σ (closedLast j (σ .eps) i g t)
-  unfolding closedLast when_give_else_ connectorMoves
+  unfolding closedLast when_give_else_
   closed-last j b i g t = by (near (j .«current_end») (j .«next_start») (σ .eps))
     where
       by : (n : Bool)
           → Bounded σ
           (when n give spanMove i g t (j .«next_start») (j .«current_param») ∷ [] else spanMove i g t (j .«current_end») (j .«current_param») ∷ connectorMoves i j)
       by true = span i g t _ _ [] none
-      by false = span i g t _ _ (connectorMoves i j) (connector i j [] b none)
+      by false = span i g t _ _ (connectorMoves i j) (subst (Bounded σ) (append-nil (connectorMoves i j)) (connector i j [] b none))
 
   -- a connector of the walk of a, b, vs
   pub connectors-bound : (closed : Bool) (a b : PlineVertex) (vs : List PlineVertex) (m : Move) (i : SourceSegment) →

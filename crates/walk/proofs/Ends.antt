@@ -15,8 +15,8 @@ use Rattle.segments.specs.declared.RawOffsetSeg.{RawOffsetSeg}
 use Rattle.segments.specs.Segment.{offsetSeg}
 use Rattle.joins.specs.declared.JoinBoundary.{JoinBoundary}
 use Rattle.moves.specs.declared.Move.{Move}
-use Rattle.moves.specs.Made.{spanMove, connectorMove}
-use Rattle.walk.specs.Walk.{connectorMoves, joinAt, walk, closedLast, closingJoin, walkStart, walkMoves}
+use Rattle.moves.specs.Made.{spanMove, connectorMove, tipMoves, connectorMoves}
+use Rattle.walk.specs.Walk.{joinAt, walk, closedLast, closingJoin, walkStart, walkMoves}
 
 -- moves of which the last ends at p
 pub record EndsAt (p : Vector2) (ms : List Move) : Type 0 where
@@ -33,6 +33,10 @@ pub record Closes (p : Vector2) (ms : List Move) : Type 0 where
 after : (m : Move) {p : Vector2} {ms : List Move} → EndsAt p ms → EndsAt p (m ∷ ms)
 after m e = record { before = m ∷ e .before; closing = e .closing; last = ap (λ (t : List Move). m ∷ t) (e .last); home = e .home }
 
+after-all : (ns : List Move) {p : Vector2} {ms : List Move} → EndsAt p ms → EndsAt p (ns ++ ms)
+after-all [] e = e
+after-all (n ∷ ns) e = after n (after-all ns e)
+
 module _ (closing : JoinBoundary) (σ : Settings) where
   closed-last : (i : ℕ) (g : RawOffsetSeg) (t : Float) → EndsAt (closing .«next_start») (closedLast closing (σ .eps) i g t)
   unfolding closedLast when_give_else_ spanMove connectorMove connectorMoves
@@ -46,16 +50,16 @@ module _ (closing : JoinBoundary) (σ : Settings) where
 
       by : (n : Bool) → EndsAt (closing .«next_start») (when n give folded ∷ [] else whole ∷ connectorMoves i closing)
       by true = record { before = []; closing = folded; last = refl; home = refl }
-      by false = record { before = whole ∷ []; closing = connectorMove i closing; last = refl; home = refl }
+      by false = record { before = whole ∷ tipMoves i closing; closing = connectorMove i closing; last = refl; home = refl }
 
   walk-ends : (i : ℕ) (a b : PlineVertex) (t : Float) (vs : List PlineVertex) → EndsAt (closing .«next_start») (walk (closedLast closing (σ .eps)) σ i a b t vs)
-  unfolding walk connectorMoves
+  unfolding walk
   walk-ends i a b t [] = closed-last i (offsetSeg a b (σ .offset)) t
-  walk-ends i a b t (c ∷ vs) = after _ (after _ (walk-ends (suc i) b c (joinAt σ a b c .«next_param») vs))
+  walk-ends i a b t (c ∷ vs) = after _ (after-all (connectorMoves i (joinAt σ a b c)) (walk-ends (suc i) b c (joinAt σ a b c .«next_param») vs))
 
   walk-closes : (i : ℕ) (a b : PlineVertex) (t : Float) (c : PlineVertex) (vs : List PlineVertex) → Closes (closing .«next_start») (walk (closedLast closing (σ .eps)) σ i a b t (c ∷ vs))
-  unfolding walk connectorMoves after
-  walk-closes i a b t c vs = record { ends = after _ (after _ (walk-ends (suc i) b c (joinAt σ a b c .«next_param») vs)); some = zero-lt-suc _ }
+  unfolding walk after
+  walk-closes i a b t c vs = record { ends = after _ (after-all (connectorMoves i (joinAt σ a b c)) (walk-ends (suc i) b c (joinAt σ a b c .«next_param») vs)); some = zero-lt-suc _ }
 
 pub closed-ends : (σ : Settings) (a b : PlineVertex) (vs : List PlineVertex) → Closes (walkStart true σ a b vs) (walkMoves true σ a b vs)
 unfolding walkStart walkMoves when_give_else_

@@ -4,6 +4,7 @@ pub mod Around
 pub mod Connectors
 pub mod Ends
 pub mod Lengths
+pub mod Round
 pub mod Origins
 pub mod Branches
 pub mod Unmet

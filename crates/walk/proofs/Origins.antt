@@ -1,8 +1,8 @@
 -- The source segments that a walk's moves belong to never fall, and none is past the source's last; so it is with the origins of what is drawn (`drawing-never-falls`,
 -- `drawing-below`), and those of a copy are the segments one by one. Assumes nothing.
-use mathlib.Core.Path.{_≡_, refl, ap, _∙_}
+use mathlib.Core.Path.{_≡_, refl, ap, _∙_, subst}
 use mathlib.Core.Logic.{⊎-elim}
-use mathlib.Core.List.{List, [], _∷_, _++_, map, List·Memᴰ, List·Memᴰ·cases-cons, List·Memᴰ·not-nil, Memᴰ·map}
+use mathlib.Core.List.{List, [], _∷_, _++_, map, append-nil, List·Memᴰ, List·Memᴰ·cases-cons, List·Memᴰ·not-nil, Memᴰ·map}
 use mathlib.Core.Bool.{Bool, true, false}
 use Prim.Native.Nat.{ℕ, zero, suc, _+_, _-_, _≤_, _<_}
 use native.Mathlib.Nat.{le-refl, add-zero}
@@ -23,12 +23,13 @@ use Rattle.joins.specs.declared.JoinBoundary.{JoinBoundary}
 use Rattle.moves.specs.declared.Move.{Move}
 use Rattle.moves.specs.declared.Origin.{Origin}
 use Rattle.moves.specs.declared.Origin.the-variants.{Span}
-use Rattle.moves.specs.Made.{segmentOf, spanMove, connectorMove}
+use Rattle.moves.specs.Made.{segmentOf, spanMove, connectorMove, tipMove, connectorMoves}
+use Rattle.moves.proofs.Tips.{either-tip}
 use Rattle.moves.specs.Drawing.{Drawing, nothing, moveEnd, kept}
 use Rattle.moves.specs.Choice.{NeverFalling}
 use Rattle.moves.specs.Choice.NeverFalling.{none, next}
 use Rattle.moves.proofs.Rows.{from-less, in-front, at-most-last, kept-never-falls, sourceOf, open-never-falls, closed-never-falls}
-use Rattle.walk.specs.Walk.{connectorMoves, joinAt, walk, openLast, closedLast, closingJoin, walkMoves, walkDrawing, drawingOf, spansFrom}
+use Rattle.walk.specs.Walk.{joinAt, walk, openLast, closedLast, closingJoin, walkMoves, walkDrawing, drawingOf, spansFrom}
 use Rattle.walk.proofs.Lengths.{open-drawing, closed-drawing}
 
 -- ---- the moves of a walk, from segment i up to segment n
@@ -40,14 +41,20 @@ Climbing i n ms = NeverFalling i (map sourceOf ms ++ n ∷ [])
 abbrev OwnLast : (ℕ → RawOffsetSeg → Float → List Move) → Type 0
 OwnLast last = (i : ℕ) (g : RawOffsetSeg) (t : Float) → Climbing i i (last i g t)
 
+-- the connectors after segment i are its own
+connectors-climb : (i n : ℕ) (j : JoinBoundary) (ms : List Move) → Climbing i n ms → Climbing i n (connectorMoves i j ++ ms)
+unfolding connectorMoves connectorMove tipMove
+connectors-climb i n j ms on =
+    either-tip i j (λ (xs : List Move). Climbing i n ((xs ++ connectorMove i j ∷ []) ++ ms)) (λ t. next (le-refl i) on) (λ t. next (le-refl i) (next (le-refl i) on))
+
 walk-climbs : (last : ℕ → RawOffsetSeg → Float → List Move) → OwnLast last → (σ : Settings) (i : ℕ) (a b : PlineVertex) (t : Float) (vs : List PlineVertex)
     → Climbing i (i + length vs) (walk last σ i a b t vs)
-unfolding walk connectorMoves spanMove connectorMove
+unfolding walk spanMove
 walk-climbs last h σ i a b t [] = rw (add-zero i) (h i (offsetSeg a b (σ .offset)) t)
 walk-climbs last h σ i a b t (c ∷ vs) =
     let rest = walk-climbs last h σ (suc i) b c (joinAt σ a b c .«next_param») vs in
     let same : suc i + length vs ≡ i + suc (length vs) = omega arith in
-    next (le-refl i) (next (le-refl i) (from-less {n = i} (omega arith) (rw same at rest)))
+    next (le-refl i) (connectors-climb i _ (joinAt σ a b c) _ (from-less {n = i} (omega arith) (rw same at rest)))
 
 open-last : OwnLast openLast
 unfolding openLast spanMove
@@ -59,10 +66,11 @@ either-own true i ms ks p q = p
 either-own false i ms ks p q = q
 
 closed-last : (closing : JoinBoundary) (ε : Float) → OwnLast (closedLast closing ε)
-unfolding closedLast connectorMoves spanMove connectorMove
+unfolding closedLast spanMove
 closed-last closing ε i g t =
-    let one : NeverFalling i (i ∷ i ∷ []) = next (le-refl i) (next (le-refl i) none) in
-    either-own _ i _ _ one (next (le-refl i) one)
+    let none-left : Climbing i i [] = next (le-refl i) none in
+    let own : Climbing i i (connectorMoves i closing) = subst (Climbing i i) (append-nil (connectorMoves i closing)) (connectors-climb i i closing [] none-left) in
+    either-own _ i _ _ (next (le-refl i) none-left) (next (le-refl i) own)
 
 module _ (σ : Settings) (a b : PlineVertex) (vs : List PlineVertex) where
   -- the source's last segment

@@ -6,6 +6,7 @@ use Rattle.floats.specs.Binary64.{zero, one, two}
 use Rattle.angles.specs.Angle.{quarterTurn, sweepOf}
 use Rattle.segments.specs.declared.PlineVertex.{PlineVertex}
 use Rattle.segments.specs.declared.Settings.{Settings}
+use Rattle.segments.specs.Modes.{roundBy}
 use Rattle.segments.specs.Vertex.{posOf, bulgeIsZero, bulgeIsNeg, arcRadius, chordDistance, arcCenter, arcSupport}
 use Rattle.segments.specs.Segment.{offsetRadius, collapses, moved, tangent, offsetArc, offsetCurve, curvedSeg, offsetSeg, tangentAt}
 use Rattle.meetings.specs.declared.ArcRule.{ArcRule}
@@ -22,7 +23,7 @@ abbrev second : PlineVertex
 second = record { x = two; y = zero; bulge = one }
 
 abbrev σ : Settings
-σ = record { offset = ofBits binary64 0xbff0_0000_0000_0000; eps = ofBits binary64 0x3ee4_f8b5_88e3_68f1 }
+σ = roundBy (ofBits binary64 0xbff0_0000_0000_0000) (ofBits binary64 0x3ee4_f8b5_88e3_68f1)
 
 -- the join of the segments a to b and b to c, with its rules
 abbrev told : PlineVertex → PlineVertex → PlineVertex → JoinBoundary

@@ -6,6 +6,7 @@ use mathlib.Core.Bool.{Bool, true, false}
 use Prim.Native.Nat.{ℕ, suc, _+_}
 use native.Mathlib.Nat.{add-assoc, add-zero}
 use native.Mathlib.Numerals.{add-one}
+use lib.Dec.{eqb·suc-zero}
 use lib.ListN.{length, length-append}
 use lib.Ieee.{Float}
 use Rattle.floats.specs.Choice.{when_give_else_, _and_}
@@ -19,13 +20,13 @@ use Rattle.moves.specs.declared.Move.{Move}
 use Rattle.moves.specs.declared.Pen.{Pen}
 use Rattle.moves.specs.declared.Stroke.{Stroke}
 use Rattle.moves.specs.Moves as M
-use Rattle.moves.specs.Made.{spanMove}
+use Rattle.moves.specs.Made.{spanMove, connectorMoves}
 use Rattle.moves.specs.Drawing.{moveEnd, kept, lastPoint}
 use Rattle.moves.specs.InnerSteps.{penAfter, stepOf, strokes}
 use Rattle.moves.proofs.Kept as K
 use Rattle.moves.proofs.Strokes.{strokes-append}
-use Rattle.walk.specs.Walk.{connectorMoves, joinAt, walk}
-use Rattle.walk.specs.InnerSteps.{Standing, Stood, afterTurn, turnTo, drawnBy, turnStrokes, penTurned, Advance, advance, goes, drawnOn}
+use Rattle.walk.specs.Walk.{joinAt, walk}
+use Rattle.walk.specs.InnerSteps.{Standing, Stood, afterTurn, turnTo, drawnBy, strokesBy, penBy, Advance, advance, goes, drawnOn}
 
 -- ---- what a pen draws of a row of moves
 
@@ -63,9 +64,32 @@ module _ (e : Float) where
         left = d′ .left ∙ rw (k, length-append, add-assoc, K.lastPoint-append moveEnd);
       }
 
-  -- two moves, one after the other
-  pub two-drawn : (pen : Pen) (m c : Move) → Draws e pen (m ∷ c ∷ []) (turnStrokes 0 pen m c e) (penTurned pen m c e)
-  two-drawn pen m c = both-drawn (one-drawn pen m) (one-drawn _ c)
+  none-drawn : (pen : Pen) → Draws e pen [] [] pen
+  unfolding strokes M.lastPoint
+  none-drawn pen = let k = K.kept-nil moveEnd (λ x y. near x y e) (pen .last) in record { drawn = rw k; left = rw (k, add-zero) }
+
+  -- moves one after the other
+  pub row-drawn : (pen : Pen) (ms : List Move) → Draws e pen ms (strokesBy 0 pen ms e) (penBy pen ms e)
+  unfolding strokesBy penBy
+  row-drawn pen [] = none-drawn pen
+  row-drawn pen (m ∷ ms) = both-drawn (one-drawn pen m) (row-drawn _ ms)
+
+-- one row after another, of any walk
+pub strokes-both : (n : ℕ) (pen : Pen) (ms ns : List Move) (e : Float) → strokesBy n pen (ms ++ ns) e ≡ strokesBy n pen ms e ++ strokesBy n (penBy pen ms e) ns e
+unfolding strokesBy penBy
+strokes-both n pen [] ns e = refl
+strokes-both n pen (m ∷ ms) ns e = rw (strokes-both n (stepOf pen m e .pen) ms ns e, append-assoc)
+
+pub pen-both : (pen : Pen) (ms ns : List Move) (e : Float) → penBy pen (ms ++ ns) e ≡ penBy (penBy pen ms e) ns e
+unfolding penBy
+pen-both pen [] ns e = refl
+pen-both pen (m ∷ ms) ns e = pen-both (stepOf pen m e .pen) ms ns e
+
+-- nothing is drawn while turns lead in
+pub led-undrawn : (n : ℕ) (pen : Pen) (ms : List Move) (e : Float) → strokesBy (suc n) pen ms e ≡ []
+unfolding strokesBy drawnBy when_give_else_ _and_
+led-undrawn n pen [] e = refl
+led-undrawn n pen (m ∷ ms) e = rw (eqb·suc-zero n) (led-undrawn n (stepOf pen m e .pen) ms e)
 
 -- ---- a walk that is led in
 
@@ -89,8 +113,8 @@ module _ (closed : Bool) (σ : Settings) where
 
     pub turn-drawn : let k = joinAt σ a b c in
         Draws (σ .eps) pen (spanMove i (offsetSeg a b (σ .offset)) (j .«next_param») (k .«current_end») (k .«current_param») ∷ connectorMoves i k) (turned .strokes) (turned .stood .pen)
-    unfolding turned advance turnTo afterTurn joinAt connectorMoves
-    turn-drawn = two-drawn (σ .eps) pen _ _
+    unfolding turned advance turnTo afterTurn joinAt
+    turn-drawn = row-drawn (σ .eps) pen _
 
   -- it draws what the rule's walk has, if it draws the last moves
   pub walk-drawn : (last : ℕ → RawOffsetSeg → Float → List Move) (vs : List PlineVertex) (i : ℕ) (a b : PlineVertex) (j : JoinBoundary) (pen : Pen) {s : List Stroke} {q : Pen}

@@ -1,6 +1,6 @@
 -- A meeting connector is never kept where all that is drawn is finite (`never-met`): it ends where the span before it ended, and the last kept point is near there or is that very
 -- point. A closed walk never keeps exactly one move (`never-one`). Assumes nothing.
-use mathlib.Core.Path.{_≡_, refl, sym, ap, _∙_}
+use mathlib.Core.Path.{_≡_, refl, sym, ap, _∙_, subst}
 use mathlib.Core.Logic.{_⊎_, inl, inr, ⊎-elim}
 use mathlib.Core.List.{List, [], _∷_, _++_, append-nil, List·Memᴰ, List·Memᴰ·cases-cons, List·Memᴰ·not-nil}
 use mathlib.Core.Bool.{Bool, true, false, true≢false}
@@ -20,16 +20,21 @@ use Rattle.segments.specs.Vertex.{vertexAt}
 use Rattle.segments.specs.Segment.{offsetSeg}
 use Rattle.meetings.specs.declared.Met.the-variants as Met
 use Rattle.joins.specs.declared.JoinBoundary.{JoinBoundary}
+use Rattle.joins.specs.declared.JoinCause.{JoinCause}
 use Rattle.joins.specs.Join.{joinOf}
+use Rattle.joins.specs.Corner.{isPointed, cornerJoin}
+use Rattle.joins.proofs.Corner.{corner-ends}
 use Rattle.moves.specs.declared.Move.{Move}
-use Rattle.moves.specs.declared.Reason.the-variants.{Meeting}
+use Rattle.moves.specs.declared.Reason.{Reason}
+use Rattle.moves.specs.declared.Reason.the-variants.{Meeting, Pointed}
 use Rattle.moves.specs.Reason.{connectorReason}
-use Rattle.moves.specs.Made.{spanMove, connectorMove}
+use Rattle.moves.specs.Made.{spanMove, connectorMove, tipMove, connectorMoves}
 use Rattle.moves.specs.Drawing.{moveEnd, kept, lastPoint, corners, drawnOpen, drawnClosed, finiteVertex, allFinite}
 use Rattle.moves.proofs.Kept as K
+use Rattle.moves.proofs.Tips.{either-tip, pointed-cause}
 use Rattle.moves.proofs.Near.{near-finite}
 use Rattle.moves.proofs.Drawn.{closed-never-one}
-use Rattle.walk.specs.Walk.{connectorMoves, joinAt, walk, openLast, closedLast, closingJoin, walkStart, walkMoves, walkDrawing}
+use Rattle.walk.specs.Walk.{joinAt, walk, openLast, closedLast, closingJoin, walkStart, walkMoves, walkDrawing}
 use Rattle.walk.specs.Spans.{Corner, cornerAt}
 use Rattle.walk.specs.Branches.{ConnectorBranch}
 use Rattle.walk.proofs.Branches.{span↔, connector↔, searched}
@@ -41,21 +46,26 @@ data Stays : Vector2 → List Move → Type 0 where
   next : {q : Vector2} {m : Move} {ms : List Move} → (m .reason ≡ Meeting → m .end ≡ q) → Stays (m .end) ms → Stays q (m ∷ ms)
 
 module _ (σ : Settings) where
-  one-point : (k : Corner) → let j = joinOf (k .current) (k .next) (k .shared) σ in connectorReason (j .cause) ≡ Meeting → j .«next_start» ≡ j .«current_end»
+  one-point : (k : Corner) → let j = cornerJoin (k .current) (k .next) (k .shared) σ in connectorReason (j .cause) ≡ Meeting → j .«next_start» ≡ j .«current_end»
   unfolding joinOf
-  one-point k e = by (connector↔ σ k Meeting .0 e)
+  one-point k e = let s = corner-ends (k .current) (k .next) (k .shared) σ in s .«next_start» ∙ by (connector↔ σ k Meeting .0 e) ∙ sym (s .«current_end»)
     where
       by : ConnectorBranch Meeting k σ → joinOf (k .current) (k .next) (k .shared) σ .«next_start» ≡ joinOf (k .current) (k .next) (k .shared) σ .«current_end»
       by (inl h) = rw h
       by (inr h) = rw (h .0, searched (k .current) (k .next) (k .shared) (σ .eps) (Met.At (h .1 .0)) (h .1 .1))
+
+  tip-unmet : (c : JoinCause) → isPointed c ≡ true → connectorReason c ≡ Meeting → ⊥
+  tip-unmet c t e = let z : _≡_ {A = Reason} Pointed Meeting = ap connectorReason (sym (pointed-cause c t)) ∙ e in true≢false (cc)
 
   span-stays : (i : ℕ) (g : RawOffsetSeg) (from : Float) (end : Vector2) (to : Float) (q : Vector2) (ms : List Move) → Stays end ms → Stays q (spanMove i g from end to ∷ ms)
   unfolding spanMove
   span-stays i g from end to q ms on = next (λ e. absurd (span↔ g from to Meeting .0 e)) on
 
   connector-stays : (i : ℕ) (a b c : PlineVertex) (ms : List Move) → let j = joinAt σ a b c in Stays (j .«next_start») ms → Stays (j .«current_end») (connectorMoves i j ++ ms)
-  unfolding connectorMoves connectorMove joinAt
-  connector-stays i a b c ms on = next (one-point (cornerAt σ a b c)) on
+  unfolding connectorMoves connectorMove tipMove joinAt
+  connector-stays i a b c ms on =
+      either-tip i (joinAt σ a b c) (λ (xs : List Move). Stays (joinAt σ a b c .«current_end») ((xs ++ connectorMove i (joinAt σ a b c) ∷ []) ++ ms)) (λ t. next (one-point (cornerAt σ a b c)) on)
+      (λ t. next (λ e. absurd (tip-unmet (joinAt σ a b c .cause) t e)) (next (λ e. absurd (tip-unmet (joinAt σ a b c .cause) t e)) on))
 
   walk-stays : (last : ℕ → RawOffsetSeg → Float → List Move) → ((i : ℕ) (g : RawOffsetSeg) (t : Float) (q : Vector2) → Stays q (last i g t))
       → (i : ℕ) (a b : PlineVertex) (t : Float) (q : Vector2) (vs : List PlineVertex) → Stays q (walk last σ i a b t vs)
@@ -68,7 +78,7 @@ module _ (σ : Settings) where
   open-stays i g t q = span-stays i g t _ _ q [] none
 
   closed-stays : (a b c : PlineVertex) (i : ℕ) (g : RawOffsetSeg) (t : Float) (q : Vector2) → Stays q (closedLast (joinAt σ a b c) (σ .eps) i g t)
-  unfolding closedLast when_give_else_ connectorMoves
+  unfolding closedLast when_give_else_
   closed-stays a b c i g t q = by (near (j .«current_end») (j .«next_start») (σ .eps))
     where
       j : JoinBoundary
@@ -77,7 +87,7 @@ module _ (σ : Settings) where
       by : (n : Bool)
           → Stays q (when n give spanMove i g t (j .«next_start») (j .«current_param») ∷ [] else spanMove i g t (j .«current_end») (j .«current_param») ∷ connectorMoves i j)
       by true = span-stays i g t (j .«next_start») (j .«current_param») q [] none
-      by false = span-stays i g t (j .«current_end») (j .«current_param») q (connectorMoves i j) (connector-stays i a b c [] none)
+      by false = span-stays i g t (j .«current_end») (j .«current_param») q (connectorMoves i j) (subst (Stays (j .«current_end»)) (append-nil (connectorMoves i j)) (connector-stays i a b c [] none))
 
   moves-stay : (closed : Bool) (a b : PlineVertex) (vs : List PlineVertex) (q : Vector2) → Stays q (walkMoves closed σ a b vs)
   unfolding walkMoves when_give_else_ closingJoin

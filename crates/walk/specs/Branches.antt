@@ -2,7 +2,7 @@
 -- branch was taken. Definitions only.
 use mathlib.Core.Path.{_≡_}
 use mathlib.Core.Logic.{_⊎_, _↔_}
-use mathlib.Core.List.{List}
+use mathlib.Core.List.{List, List·Memᴰ}
 use mathlib.Core.Bool.{Bool, true, false}
 use Prim.Native.Nat.{ℕ, _<_}
 use lib.ListN.{length, getD}
@@ -19,13 +19,14 @@ use Rattle.meetings.specs.declared.Met.{Met}
 use Rattle.meetings.specs.declared.Met.the-variants as Met
 use Rattle.meetings.specs.Meetings.{lineLineMeeting, lineArcMeeting, arcLineMeeting, arcArcMeeting}
 use Rattle.joins.specs.declared.JoinTurn.the-variants as Turn
-use Rattle.joins.specs.Join.{turnOf, joinOf}
+use Rattle.joins.specs.Join.{turnOf}
+use Rattle.joins.specs.Corner.{cornerJoin, Sharp}
 use Rattle.moves.specs.declared.Move.{Move}
 use Rattle.moves.specs.declared.Origin.{Origin}
 use Rattle.moves.specs.declared.Origin.the-variants.{Span, Connector}
 use Rattle.moves.specs.declared.Reason.{Reason}
-use Rattle.moves.specs.declared.Reason.the-variants.{InOrder, TurnedBack, CollapsedArc, Round, Reversal, Meeting as MeetingConnector, CollapsedSide, NoMeeting, CandidatesMissed, ZeroTangent, SameDirection, Copied}
-use Rattle.moves.specs.Made.{spanMove, connectorMove}
+use Rattle.moves.specs.declared.Reason.the-variants.{InOrder, TurnedBack, CollapsedArc, Round, Reversal, Meeting as MeetingConnector, CollapsedSide, NoMeeting, CandidatesMissed, ZeroTangent, SameDirection, Copied, Pointed}
+use Rattle.moves.specs.Made.{spanMove, connectorMoves}
 use Rattle.walk.specs.Spans.{Corner, Edge, cornersOf, segsOf, startsOf, endsOf}
 
 -- ---- a span: of the segment g, from one parameter to another. Collapsed goes before turned back.
@@ -42,6 +43,7 @@ SpanBranch CandidatesMissed g from to = ⊥
 SpanBranch ZeroTangent g from to = ⊥
 SpanBranch SameDirection g from to = ⊥
 SpanBranch Copied g from to = ⊥
+SpanBranch Pointed g from to = ⊥
 
 -- ---- a connector
 
@@ -55,12 +57,12 @@ Searched (Arc a) (Arc b) shared ε m = arcArcMeeting a b shared ε ≡ m
 Searched (Arc a) (Collapsed b) shared ε m = ⊥
 Searched (Collapsed a) next shared ε m = ⊥
 
--- of a corner: coincident ends, or an inner meeting, make a meeting connector
+-- of a corner: coincident ends, or an inner meeting, make a meeting connector; an outer turn makes round ones, or, where 02's 2026-13 has a tip, pointed ones
 abbrev pub ConnectorBranch : Reason → Corner → Settings → Type 0
 ConnectorBranch InOrder k σ = ⊥
 ConnectorBranch TurnedBack k σ = ⊥
 ConnectorBranch CollapsedArc k σ = ⊥
-ConnectorBranch Round k σ = turnOf (k .current) (k .next) σ ≡ Turn.Outer
+ConnectorBranch Round k σ = (turnOf (k .current) (k .next) σ ≡ Turn.Outer) × (Sharp (k .current) (k .next) (k .shared) σ → ⊥)
 ConnectorBranch Reversal k σ = turnOf (k .current) (k .next) σ ≡ Turn.Reversal
 ConnectorBranch MeetingConnector k σ =
     (turnOf (k .current) (k .next) σ ≡ Turn.Coincident)
@@ -71,6 +73,7 @@ ConnectorBranch CandidatesMissed k σ = (turnOf (k .current) (k .next) σ ≡ Tu
 ConnectorBranch ZeroTangent k σ = turnOf (k .current) (k .next) σ ≡ Turn.ZeroTangent
 ConnectorBranch SameDirection k σ = turnOf (k .current) (k .next) σ ≡ Turn.SameDirection
 ConnectorBranch Copied k σ = ⊥
+ConnectorBranch Pointed k σ = (turnOf (k .current) (k .next) σ ≡ Turn.Outer) × Sharp (k .current) (k .next) (k .shared) σ
 
 -- ---- the moves of the walk over a source a, b, vs
 
@@ -91,11 +94,11 @@ pub record SpanMade (closed : Bool) (σ : Settings) (a b : PlineVertex) (vs : Li
   pub is : m ≡ spanMove i segment (start .param) point (end .param)
   pub because : (r : Reason) → (m .reason ≡ r) ↔ SpanBranch r segment (start .param) (end .param)
 
--- the connector after it, of its corner
+-- a connector after it, one of those of its corner
 pub record ConnectorMade (closed : Bool) (σ : Settings) (a b : PlineVertex) (vs : List PlineVertex) (i : ℕ) (m : Move) : Type 0 where
   pub corner : Corner
   pub corner-is : Is (cornersOf closed σ a b vs) i corner
-  pub is : m ≡ connectorMove i (joinOf (corner .current) (corner .next) (corner .shared) σ)
+  pub among : List·Memᴰ m (connectorMoves i (cornerJoin (corner .current) (corner .next) (corner .shared) σ))
   pub because : (r : Reason) → (m .reason ≡ r) ↔ ConnectorBranch r corner σ
 
 abbrev pub Made : Bool → Settings → PlineVertex → PlineVertex → List PlineVertex → Move → Origin → Type 0

@@ -21,15 +21,15 @@ use Rattle.segments.specs.InnerSteps.{fullSeg, Marked, bulgeBy}
 use Rattle.joins.specs.declared.JoinBoundary.{JoinBoundary}
 use Rattle.joins.specs.declared.JoinCause.the-variants.{Coincident}
 use Rattle.joins.specs.Boundary.{straight}
-use Rattle.joins.specs.Join.{joinOf}
+use Rattle.joins.specs.Corner.{cornered, cornerJoin}
 use Rattle.joins.specs.Rules.{ruledJoin}
 use Rattle.joins.specs.InnerSteps.{seenSeg}
 use Rattle.moves.specs.declared.Move.{Move}
 use Rattle.moves.specs.declared.Pen.{Pen}
 use Rattle.moves.specs.declared.Stroke.{Stroke}
 use Rattle.moves.specs.declared.Stepped.{Stepped}
-use Rattle.moves.specs.Made.{spanMove, connectorMove}
-use Rattle.moves.specs.InnerSteps.{penAt, stepOf, withBulge}
+use Rattle.moves.specs.Made.{spanMove, connectorMoves}
+use Rattle.moves.specs.InnerSteps.{penAt, stepOf, withBulge, tipFirst}
 use Rattle.walk.specs.declared.Walk.{Walk}
 use Rattle.walk.specs.declared.Turned.{Turned}
 
@@ -92,10 +92,10 @@ afterTurn closed pen (suc (suc n)) w = record { walker = w; pen = pen; leading =
 
 -- ---- one turn
 
--- the span and the connector that it makes, the join between them with its rules, and where the walk stands then
+-- the span and the connectors that it makes, the join between them with its rules, and where the walk stands then
 pub record Turn : Type 0 where
   pub span : Move
-  pub connector : Move
+  pub connectors : List Move
   pub join : JoinBoundary
   pub walker : Standing
 
@@ -103,17 +103,24 @@ pub record Turn : Type 0 where
 unfoldable pub turnTo : Standing → PlineVertex → Settings → Turn
 turnTo w c σ =
     let next = offsetSeg (w .vertex) c (σ .offset) in
-    let j = joinOf (w .current) next (posOf (w .vertex)) σ in
+    let j = cornerJoin (w .current) next (posOf (w .vertex)) σ in
     record {
       span = spanMove (w .source .0) (w .current) (w .entry .«next_param») (j .«current_end») (j .«current_param»);
-      connector = connectorMove (w .source .0) j;
-      join = ruledJoin (w .current) next (posOf (w .vertex)) σ;
+      connectors = connectorMoves (w .source .0) j;
+      join = cornered (w .current) next (posOf (w .vertex)) σ (ruledJoin (w .current) next (posOf (w .vertex)) σ);
       walker = record { source = record { 0 = w .source .0 + 1 }; current = next; vertex = c; entry = j };
     }
 
+-- the moves of the code's, in order: those after its span, and all
+abbrev pub afterSpan : Turned → List Move
+afterSpan t = tipFirst (t .join) (t .connector) ++ t .connector ∷ []
+
+abbrev pub madeBy : Turned → List Move
+madeBy t = t .span ∷ afterSpan t
+
 -- the code's: its span has its bulge still to come
 abbrev pub turnShown : Turned → Turn
-turnShown t = record { span = withBulge (bulgeBy (t .curved) (t .sweep)) (t .span); connector = t .connector; join = t .join; walker = stands (t .walk) }
+turnShown t = record { span = withBulge (bulgeBy (t .curved) (t .sweep)) (t .span); connectors = afterSpan t; join = t .join; walker = stands (t .walk) }
 
 -- the span of the segment that the walk stands at, up to a point of it; to its end
 abbrev pub spanTo : Standing → Vector2 → Float → Move
@@ -126,14 +133,14 @@ lastSpan w = spanTo w (endOf (w .current)) one
 unfoldable pub drawnBy : ℕ → Stepped → List Stroke
 drawnBy leading st = when eqb leading 0 and st .kept give st .stroke ∷ [] else []
 
--- a span and a connector: the strokes of the two, and the pen then
-abbrev pub turnStrokes : ℕ → Pen → Move → Move → Float → List Stroke
-turnStrokes leading pen span connector ε =
-    let first = stepOf pen span ε in
-    drawnBy leading first ++ drawnBy leading (stepOf (first .pen) connector ε)
+-- moves one after the other: their strokes, and the pen then
+unfoldable pub strokesBy : ℕ → Pen → List Move → Float → List Stroke
+strokesBy leading pen [] ε = []
+strokesBy leading pen (m ∷ ms) ε = drawnBy leading (stepOf pen m ε) ++ strokesBy leading (stepOf pen m ε .pen) ms ε
 
-abbrev pub penTurned : Pen → Move → Move → Float → Pen
-penTurned pen span connector ε = stepOf (stepOf pen span ε .pen) connector ε .pen
+unfoldable pub penBy : Pen → List Move → Float → Pen
+penBy pen [] ε = pen
+penBy pen (m ∷ ms) ε = penBy (stepOf pen m ε .pen) ms ε
 
 -- one turn, with its strokes
 pub record Advance : Type 0 where
@@ -144,8 +151,8 @@ unfoldable pub advance : Bool → Settings → PlineVertex → Stood → Advance
 advance closed σ c w =
     let t = turnTo (w .walker) c σ in
     record {
-      strokes = turnStrokes (w .leading) (w .pen) (t .span) (t .connector) (σ .eps);
-      stood = afterTurn closed (penTurned (w .pen) (t .span) (t .connector) (σ .eps)) (w .leading) (t .walker);
+      strokes = strokesBy (w .leading) (w .pen) (t .span ∷ t .connectors) (σ .eps);
+      stood = afterTurn closed (penBy (w .pen) (t .span ∷ t .connectors) (σ .eps)) (w .leading) (t .walker);
     }
 
 -- ---- a turn for each vertex: where it leads, and the strokes on the way

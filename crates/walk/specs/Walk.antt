@@ -10,6 +10,8 @@ use Rattle.floats.specs.Binary64.{one}
 use Rattle.floats.specs.Choice.{when_give_else_}
 use Rattle.vectors.specs.Plane.{near}
 use Rattle.vectors.specs.declared.Vector2.{Vector2}
+use Rattle.segments.specs.declared.Corners.{Corners}
+use Rattle.segments.specs.declared.Corners.the-variants.{Round, Pointed}
 use Rattle.segments.specs.declared.Settings.{Settings}
 use Rattle.segments.specs.declared.PlineVertex.{PlineVertex}
 use Rattle.segments.specs.declared.RawOffsetSeg.{RawOffsetSeg}
@@ -17,20 +19,21 @@ use Rattle.segments.specs.Vertex.{posOf}
 use Rattle.segments.specs.Segment.{offsetSeg, startOf, endOf, isCollapsed}
 use Rattle.source.specs.Source.{segmentsOf}
 use Rattle.joins.specs.declared.JoinBoundary.{JoinBoundary}
-use Rattle.joins.specs.Join.{joinOf}
+use Rattle.joins.specs.Corner.{cornerJoin}
 use Rattle.moves.specs.declared.Move.{Move}
 use Rattle.moves.specs.declared.Origin.{Origin}
 use Rattle.moves.specs.declared.Origin.the-variants.{Span}
-use Rattle.moves.specs.Made.{spanMove, connectorMove}
+use Rattle.moves.specs.Made.{spanMove, connectorMoves}
 use Rattle.moves.specs.Drawing.{Drawing, nothing, kept, drawnOpen, drawnClosed}
 
--- the connectors of the join after segment i: the one
-unfoldable pub connectorMoves : ℕ → JoinBoundary → List Move
-connectorMoves i j = connectorMove i j ∷ []
-
--- the join of the segments a to b and b to c
+-- the join of the segments a to b and b to c, in the mode that is asked for
 unfoldable pub joinAt : Settings → PlineVertex → PlineVertex → PlineVertex → JoinBoundary
-joinAt σ a b c = joinOf (offsetSeg a b (σ .offset)) (offsetSeg b c (σ .offset)) (posOf b) σ
+joinAt σ a b c = cornerJoin (offsetSeg a b (σ .offset)) (offsetSeg b c (σ .offset)) (posOf b) σ
+
+-- the moves of a segment at most: 01's two, its span and a connector, and three in the pointed mode
+abbrev pub movesASegment : Corners → ℕ
+movesASegment Round = 2
+movesASegment (Pointed ratio) = 3
 
 -- From segment i on, which runs from a to b and whose span starts at the parameter t: span, connector, and so on over the vertices after b. `last` has the moves of
 -- the last segment, from its number, itself and the parameter where its span starts.
@@ -45,7 +48,7 @@ unfoldable pub openLast : ℕ → RawOffsetSeg → Float → List Move
 openLast i g t = spanMove i g t (endOf g) one ∷ []
 
 -- closed: where the closing join's two ends are within ε, the last span is the closing move and ends at the first vertex; otherwise it ends at the join's current
--- end, and the closing connector ends at the first vertex
+-- end, and the closing connector, or the last of two, ends at the first vertex
 unfoldable pub closedLast : JoinBoundary → Float → ℕ → RawOffsetSeg → Float → List Move
 closedLast closing ε i g t =
     when near (closing .«current_end») (closing .«next_start») ε give spanMove i g t (closing .«next_start») (closing .«current_param») ∷ [] else
