@@ -1,5 +1,5 @@
 -- A number is outside its limits exactly where it is bad: a NaN, an infinity, below the lower limit or above the upper one. Assumes nothing.
-use mathlib.Core.Path.{_≡_, refl, sym, subst}
+use mathlib.Core.Path.{_≡_, refl, sym, _∙_, ap, subst}
 use mathlib.Core.Logic.{_↔_, inl, inr, ⊎-elim}
 use mathlib.Core.Bool.{Bool, true, false, not}
 use lib.Dec.{T}
@@ -8,8 +8,10 @@ use Rattle.floats.specs.Choice.{_and_}
 use Rattle.floats.specs.Size.{finite}
 use Rattle.floats.proofs.Choice.{either-fails}
 use Rattle.floats.proofs.Order.{fails, number, nle→lt, lt→nle}
+use Rattle.segments.specs.declared.Corners.{Corners}
+use Rattle.segments.specs.declared.Corners.the-variants.{Round, Pointed}
 use Rattle.segments.specs.declared.PlineVertex.{PlineVertex}
-use Rattle.refusals.specs.Limits.{reach, bulgeLimit, leastEps, mostEps, inside, goodVertex, goodOffset, goodEps}
+use Rattle.refusals.specs.Limits.{reach, bulgeLimit, leastEps, mostEps, leastRatio, mostRatio, inside, goodVertex, goodOffset, goodEps, goodCorners}
 use Rattle.refusals.specs.Rows.{Bad, not-a-number, infinite, below, above, BadVertex, by-x, by-y, by-bulge}
 
 -- ---- tests that pass and tests that fail
@@ -83,6 +85,21 @@ offset↔bad = reach↔bad
 pub eps↔bad : (x : Float) → (goodEps x ≡ false) ↔ Bad leastEps mostEps x
 unfolding goodEps finite ofBits
 eps↔bad = outside↔bad leastEps mostEps tt tt
+
+ratio↔bad : (x : Float) → (inside leastRatio mostRatio x ≡ false) ↔ Bad leastRatio mostRatio x
+unfolding finite ofBits
+ratio↔bad = outside↔bad leastRatio mostRatio tt tt
+
+-- corners are bad where they are pointed by a bad ratio
+abbrev pub BadCorners : Corners → Type 0
+BadCorners c = (ratio : Float) × (c ≡ Pointed ratio) × Bad leastRatio mostRatio ratio
+
+corners→ : (c : Corners) → goodCorners c ≡ false → BadCorners c
+corners→ Round e = absurd (subst T e tt)
+corners→ (Pointed ratio) e = (ratio, refl, ratio↔bad ratio .0 e)
+
+pub corners↔bad : (c : Corners) → (goodCorners c ≡ false) ↔ BadCorners c
+corners↔bad c = (corners→ c, λ (b : BadCorners c). ap goodCorners (b .1) ∙ ratio↔bad (b .0) .1 (b .2))
 
 module _ (v : PlineVertex) where
   vertex→ : goodVertex v ≡ false → BadVertex v

@@ -8,10 +8,10 @@ use lib.ListN.{length, getD}
 use lib.Ieee.{Float}
 use Rattle.segments.specs.declared.Settings.{Settings}
 use Rattle.source.specs.Source.{verticesOf}
-use Rattle.refusals.specs.Limits.{goodVertex, goodOffset, goodEps, numberTests}
+use Rattle.refusals.specs.Limits.{goodVertex, goodOffset, goodEps, goodCorners, numberTests}
 use Rattle.source.specs.InnerSteps.{vertexOf}
 use Rattle.source.proofs.Source.{count-vertices, getD-vertices}
-use Rattle.refusals.proofs.Tests.{number-length, number-vertex, number-offset, number-eps}
+use Rattle.refusals.proofs.Tests.{number-length, number-vertex, number-offset, number-eps, number-ratio}
 
 module _ (s : List Float) (v : ℕ) (σ : Settings) (long : 3 * v ≡ length s) where
   pub vertex-test : (k : ℕ) → k < v → getD (numberTests (verticesOf s) σ) k false ≡ not (goodVertex (vertexOf s k))
@@ -25,5 +25,8 @@ module _ (s : List Float) (v : ℕ) (σ : Settings) (long : 3 * v ≡ length s) 
   pub eps-test : getD (numberTests (verticesOf s) σ) (v + 1) false ≡ not (goodEps (σ .eps))
   eps-test = rw (count-vertices s v long) at (number-eps σ (verticesOf s))
 
-  pub no-more-tests : length (numberTests (verticesOf s) σ) ≤ v + 1 + 1
+  pub ratio-test : getD (numberTests (verticesOf s) σ) (v + 1 + 1) false ≡ not (goodCorners (σ .corners))
+  ratio-test = let e : v + 1 + 1 ≡ v + 2 = omega arith in rw e (rw (count-vertices s v long) at (number-ratio σ (verticesOf s)))
+
+  pub no-more-tests : length (numberTests (verticesOf s) σ) ≤ v + 1 + 1 + 1
   no-more-tests = rw (number-length σ (verticesOf s), count-vertices s v long) (omega arith)

@@ -6,6 +6,8 @@ use Prim.Native.Nat.{ℕ}
 use lib.Ieee.{Float, binary64, ofBits, neg, le, eq}
 use Rattle.floats.specs.Choice.{when_give_else_, _and_}
 use Rattle.segments.specs.declared.PlineVertex.{PlineVertex}
+use Rattle.segments.specs.declared.Settings.{Settings}
+use Rattle.segments.specs.Modes.{roundBy, pointedBy}
 use Rattle.refusals.specs.declared.Place.{Place}
 use Rattle.refusals.specs.declared.Place.the-variants.{Nowhere, At}
 use Rattle.source.specs.Source.{verticesOf, segmentsOf, around}
@@ -98,8 +100,15 @@ abbrev pub ε : ℕ
 abbrev pub source : List ℕ → List PlineVertex
 source ns = verticesOf (map number ns)
 
+abbrev pub badBy : List ℕ → Settings → Place
+badBy ns σ = firstOf (numberTests (source ns) σ)
+
 abbrev pub badNumber : List ℕ → ℕ → ℕ → Place
-badNumber ns offset e = firstOf (numberTests (source ns) (record { offset = number offset; eps = number e }))
+badNumber ns offset e = badBy ns (roundBy (number offset) (number e))
+
+-- the same with pointed corners
+abbrev pub badPointed : List ℕ → ℕ → ℕ → ℕ → Place
+badPointed ns offset e ratio = badBy ns (pointedBy (number offset) (number e) (number ratio))
 
 abbrev pub repeated : Bool → List ℕ → Place
 repeated closed ns = firstOf (repeatTests closed (source ns))
@@ -115,6 +124,22 @@ pub number-samples :
     badNumber line one ε ∷ badNumber bent nan nan ∷ badNumber line nan nan ∷ badNumber line one nan ∷ badNumber [] nan ε ∷ [] ≡ Nowhere ∷ At 1 ∷ At 2 ∷ At 3 ∷ At 0 ∷ []
 unfolding opened
 number-samples = refl
+
+-- 1, the double below it, 10, the double above it, NaN, +∞, −∞, −1, 0
+abbrev pub aroundRatio : List ℕ
+aroundRatio =
+    0x3ff0_0000_0000_0000 ∷ 0x3fef_ffff_ffff_ffff ∷ 0x4024_0000_0000_0000 ∷ 0x4024_0000_0000_0001 ∷
+    0x7ff8_0000_0000_0000 ∷ 0x7ff0_0000_0000_0000 ∷ 0xfff0_0000_0000_0000 ∷ 0xbff0_0000_0000_0000 ∷ 0 ∷ []
+
+-- a bad ratio is told at v + 2
+pub ratio-samples : map (badPointed line one ε) aroundRatio ≡ Nowhere ∷ At 4 ∷ Nowhere ∷ At 4 ∷ At 4 ∷ At 4 ∷ At 4 ∷ At 4 ∷ At 4 ∷ []
+unfolding opened
+ratio-samples = refl
+
+-- no vertex and a NaN for the ratio; where the ratio is bad: ε is told before it, the offset before both, a vertex before all three
+pub pointed-samples : badPointed [] one ε nan ∷ badPointed line one nan nan ∷ badPointed line nan nan nan ∷ badPointed bent nan nan nan ∷ [] ≡ At 2 ∷ At 3 ∷ At 2 ∷ At 1 ∷ []
+unfolding opened
+pointed-samples = refl
 
 abbrev pub doubled : List ℕ
 doubled = nought ∷ nought ∷ nought ∷ one ∷ nought ∷ nought ∷ one ∷ nought ∷ nought ∷ two ∷ nought ∷ nought ∷ []

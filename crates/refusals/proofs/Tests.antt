@@ -12,7 +12,7 @@ use Rattle.segments.specs.declared.PlineVertex.{PlineVertex}
 use Rattle.segments.specs.declared.Settings.{Settings}
 use Rattle.source.specs.Source.{around}
 use Rattle.refusals.specs.Rows.{VertexIs}
-use Rattle.refusals.specs.Limits.{goodVertex, goodOffset, goodEps, numberTests, repeats, neighbourTests}
+use Rattle.refusals.specs.Limits.{goodVertex, goodOffset, goodEps, goodCorners, numberTests, repeats, neighbourTests}
 
 -- there is a vertex at each place before the end
 pub vertex-there : (vs : List PlineVertex) (k : ℕ) → k < length vs → (v : PlineVertex) × VertexIs vs k v
@@ -27,7 +27,7 @@ holds-before (b ∷ bs) zero e = omega arith
 holds-before (b ∷ bs) (suc k) e = let h = holds-before bs k e in omega arith
 
 module _ (σ : Settings) where
-  pub number-length : (vs : List PlineVertex) → length (numberTests vs σ) ≡ length vs + 2
+  pub number-length : (vs : List PlineVertex) → length (numberTests vs σ) ≡ length vs + 3
   unfolding numberTests
   number-length [] = refl
   number-length (v ∷ vs) = rw (number-length vs) (omega arith)
@@ -47,6 +47,11 @@ module _ (σ : Settings) where
   unfolding numberTests
   number-eps [] = refl
   number-eps (v ∷ vs) = rw add-one (rw add-one at (number-eps vs))
+
+  pub number-ratio : (vs : List PlineVertex) → getD (numberTests vs σ) (length vs + 2) false ≡ not (goodCorners (σ .corners))
+  unfolding numberTests
+  number-ratio [] = refl
+  number-ratio (v ∷ vs) = let e : suc (length vs) + 2 ≡ suc (length vs + 2) = omega arith in rw e (number-ratio vs)
 
 pub neighbour-length : (vs : List PlineVertex) → length (neighbourTests vs) ≡ length vs - 1
 unfolding neighbourTests

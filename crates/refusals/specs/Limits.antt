@@ -1,9 +1,11 @@
--- What makes a source's numbers bad, and which of its vertices repeat (01 §1, Nos. 3 and 5, as 02's 2026-02 has them). Definitions only.
+-- What makes a source's numbers bad, and which of its vertices repeat (01 §1, Nos. 3 and 5, as 02's 2026-02 and 2026-13 have them). Definitions only.
 use Prim.Native.Nat.{ℕ, suc}
 use mathlib.Core.List.{List, [], _∷_, _++_, map}
 use mathlib.Core.Bool.{Bool, true, false, not}
 use lib.Ieee.{Float, binary64, neg, le, eq, ofBits}
 use Rattle.floats.specs.Choice.{_and_}
+use Rattle.segments.specs.declared.Corners.{Corners}
+use Rattle.segments.specs.declared.Corners.the-variants.{Round, Pointed}
 use Rattle.segments.specs.declared.PlineVertex.{PlineVertex}
 use Rattle.segments.specs.declared.Settings.{Settings}
 use Rattle.refusals.specs.declared.Place.{Place}
@@ -25,6 +27,13 @@ leastEps = ofBits binary64 0x3e11_2e0b_e826_d695
 abbrev pub mostEps : Float
 mostEps = ofBits binary64 0x3f84_7ae1_47ae_147b
 
+-- 1 and 10: for the ratio of pointed corners (02's 2026-13)
+abbrev pub leastRatio : Float
+leastRatio = ofBits binary64 0x3ff0_0000_0000_0000
+
+abbrev pub mostRatio : Float
+mostRatio = ofBits binary64 0x4024_0000_0000_0000
+
 -- from lo to hi, both counted; a NaN is not
 unfoldable pub inside : Float → Float → Float → Bool
 inside lo hi x = le lo x and le x hi
@@ -38,9 +47,14 @@ goodOffset offset = inside (neg reach) reach offset
 unfoldable pub goodEps : Float → Bool
 goodEps ε = inside leastEps mostEps ε
 
--- the tests of No. 3 in their order: each vertex, then the offset at place v, then ε at place v + 1
+-- round corners have no number of their own
+abbrev pub goodCorners : Corners → Bool
+goodCorners Round = true
+goodCorners (Pointed ratio) = inside leastRatio mostRatio ratio
+
+-- the tests of No. 3 in their order: each vertex, then the offset at place v, then ε at place v + 1, then the ratio at place v + 2
 unfoldable pub numberTests : List PlineVertex → Settings → List Bool
-numberTests vs σ = map (λ v. not (goodVertex v)) vs ++ not (goodOffset (σ .offset)) ∷ not (goodEps (σ .eps)) ∷ []
+numberTests vs σ = map (λ v. not (goodVertex v)) vs ++ not (goodOffset (σ .offset)) ∷ not (goodEps (σ .eps)) ∷ not (goodCorners (σ .corners)) ∷ []
 
 -- two vertices are equal in x and in y, by value: −0 equals +0. (The one definition of "repeated".)
 unfoldable pub repeats : PlineVertex → PlineVertex → Bool

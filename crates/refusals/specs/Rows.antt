@@ -1,4 +1,4 @@
--- Nos. 3 and 5 of 01 §1, as 02's 2026-02 has them, as propositions over the vertices, with no search in them. Definitions only.
+-- Nos. 3 and 5 of 01 §1, as 02's 2026-02 and 2026-13 have them, as propositions over the vertices, with no search in them. Definitions only.
 use mathlib.Core.Path.{_≡_}
 use mathlib.Core.List.{List}
 use mathlib.Core.Bool.{Bool, true}
@@ -6,9 +6,10 @@ use Prim.Native.Nat.{ℕ, _+_, _<_}
 use lib.Dec.{T}
 use lib.ListN.{length, getD}
 use lib.Ieee.{Float, nan, inf, neg, lt, eq}
+use Rattle.segments.specs.declared.Corners.the-variants.{Pointed}
 use Rattle.segments.specs.declared.PlineVertex.{PlineVertex}
 use Rattle.segments.specs.declared.Settings.{Settings}
-use Rattle.refusals.specs.Limits.{reach, bulgeLimit, leastEps, mostEps}
+use Rattle.refusals.specs.Limits.{reach, bulgeLimit, leastEps, mostEps, leastRatio, mostRatio}
 
 -- a NaN, an infinity, or outside the limits
 pub data Bad (lo hi x : Float) : Type 0 where
@@ -31,11 +32,14 @@ pub record VertexIs (vs : List PlineVertex) (k : ℕ) (v : PlineVertex) : Type 0
 abbrev pub NoneBadBefore : List PlineVertex → ℕ → Type 0
 NoneBadBefore vs k = (j : ℕ) (v : PlineVertex) → j < k → VertexIs vs j v → BadVertex v → ⊥
 
--- No. 3 at place k: the first bad vertex; or the offset, at v, where no vertex is bad; or ε, at v + 1, where the offset is not bad either
+-- No. 3 at place k: the first bad vertex; or the offset, at v, where no vertex is bad; or ε, at v + 1, where the offset is not bad either; or the ratio of pointed corners, at
+-- v + 2, where ε is not bad either
 pub data NumberRow (vs : List PlineVertex) (σ : Settings) : ℕ → Type 0 where
   vertex : (k : ℕ) (v : PlineVertex) → VertexIs vs k v → BadVertex v → NoneBadBefore vs k → NumberRow vs σ k
   by-offset : NoneBadBefore vs (length vs) → Bad (neg reach) reach (σ .offset) → NumberRow vs σ (length vs)
   by-eps : NoneBadBefore vs (length vs) → (Bad (neg reach) reach (σ .offset) → ⊥) → Bad leastEps mostEps (σ .eps) → NumberRow vs σ (length vs + 1)
+  by-ratio : NoneBadBefore vs (length vs) → (Bad (neg reach) reach (σ .offset) → ⊥) → (Bad leastEps mostEps (σ .eps) → ⊥)
+      → (ratio : Float) → σ .corners ≡ Pointed ratio → Bad leastRatio mostRatio ratio → NumberRow vs σ (length vs + 2)
 
 -- two vertices are equal in x and in y
 pub record Repeats (a b : PlineVertex) : Type 0 where
