@@ -16,7 +16,7 @@ use Rattle.segments.specs.declared.RawOffsetSeg.{RawOffsetSeg}
 use Rattle.joins.specs.declared.JoinBoundary.{JoinBoundary}
 use Rattle.refusals.specs.declared.Place.the-variants.{Nowhere}
 use Rattle.source.specs.Source.{verticesOf}
-use Rattle.refusals.specs.Limits.{leastEps, mostEps, inside, goodVertex, goodOffset, goodEps, numberTests, firstFrom}
+use Rattle.refusals.specs.Limits.{leastEps, mostEps, inside, goodVertex, goodOffset, goodEps, goodCorners, numberTests, firstFrom}
 use Rattle.refusals.proofs.First.{by-test}
 use Rattle.refusals.proofs.Bad.{passes, not-fails}
 use Rattle.refusals.proofs.NumberRow.{number-nowhere}
@@ -26,7 +26,7 @@ use Rattle.moves.specs.Drawing.{Drawing, kept, lastPoint}
 use Rattle.moves.specs.Sound.{segmentCount}
 use Rattle.moves.proofs.Near.{near-finite}
 use Rattle.moves.proofs.Drawn.{emitted-end}
-use Rattle.moves.specs.Made.{spanMove, connectorMove}
+use Rattle.moves.specs.Made.{spanMove, connectorMove, connectorMoves}
 use Rattle.walk.specs.Walk.{walkDrawing}
 use Rattle.job.specs.Rows.{Job, Numbers}
 use Rattle.job.specs.Demand3.{WalkOf}
@@ -34,12 +34,12 @@ use Rattle.job.proofs.Demand3.{walk-sound}
 
 -- ---- where the numbers are good, ε is above zero
 
-last-fails : (k : ℕ) (bs : List Bool) (b : Bool) → firstFrom k (bs ++ b ∷ []) ≡ Nowhere → b ≡ false
+one-fails : (k : ℕ) (bs : List Bool) (b : Bool) (cs : List Bool) → firstFrom k (bs ++ b ∷ cs) ≡ Nowhere → b ≡ false
 unfolding firstFrom
-last-fails k [] true h = cc
-last-fails k [] false h = refl
-last-fails k (true ∷ bs) b h = let z : true ≡ false = cc in cc
-last-fails k (false ∷ bs) b h = last-fails (suc k) bs b h
+one-fails k [] true cs h = let z : true ≡ false = cc in cc
+one-fails k [] false cs h = refl
+one-fails k (true ∷ bs) b cs h = let z : true ≡ false = cc in cc
+one-fails k (false ∷ bs) b cs h = one-fails (suc k) bs b cs h
 
 eps-above : (ε : Float) → goodEps ε ≡ true → lt zero ε ≡ true
 unfolding goodEps inside lt ofBits
@@ -53,7 +53,8 @@ module _ (j : Job) (numbers : Numbers j) where
       let bad = map (λ v. not (goodVertex v)) (verticesOf (j .source)) in
       let offset = not (goodOffset (j .settings .offset)) ∷ [] in
       let n = number-nowhere (verticesOf (j .source)) (j .settings) .1 (numbers .good) in
-      let f : not good ≡ false = last-fails 0 (bad ++ offset) (not good) (rw (append-assoc bad offset (not good ∷ [])) n) in
+      let after = not (goodCorners (j .settings .corners)) ∷ [] in
+      let f : not good ≡ false = one-fails 0 (bad ++ offset) (not good) after (rw (append-assoc bad offset (not good ∷ after)) n) in
       eps-above (j .settings .eps) (by-test good (λ t. t) (λ t. absurd (true≢false (sym (not-fails good .1 t) ∙ f))))
 
   module _ (p : Vector2) (ms : List Move) (walk : WalkOf j p ms) where
@@ -72,7 +73,7 @@ module _ (j : Job) (numbers : Numbers j) where
     -- ---- emit_join: the last vertex is near the join's current end, where the span before it ended
 
     pub join-start : (before after : List Move) (i : ℕ) (g : RawOffsetSeg) (t : Float) (b : JoinBoundary)
-        → ms ≡ before ++ spanMove i g t (b .«current_end») (b .«current_param») ∷ connectorMove i b ∷ after
+        → ms ≡ before ++ spanMove i g t (b .«current_end») (b .«current_param») ∷ connectorMoves i b ++ after
         → finite (b .«current_end» .x) ≡ true → finite (b .«current_end» .y) ≡ true
         → near (lastPoint p (kept (j .settings .eps) p (before ++ spanMove i g t (b .«current_end») (b .«current_param») ∷ []))) (b .«current_end») (j .settings .eps) ≡ true
     unfolding spanMove

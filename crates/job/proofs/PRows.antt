@@ -1,4 +1,4 @@
--- The nine P rows of 01 §5: the whole outcome of each job, by computation of the definitions. Assumes nothing.
+-- The nine P rows of 01 §5 (`p-rows`), and three jobs with pointed corners (`pointed-rows`): the whole outcome of each, by computation of the definitions. Assumes nothing.
 use mathlib.Core.Path.{_≡_, refl}
 use mathlib.Core.List.{List, [], _∷_, _++_, map}
 use mathlib.Core.Bool.{Bool, true, false}
@@ -11,22 +11,25 @@ use Rattle.floats.specs.Size.{absOf, within, finite}
 use Rattle.floats.specs.Root.{sqrtOf}
 use Rattle.vectors.specs.Plane.{_⊞_, _⊟_, _⊡_, dot, cross, perp, lengthSquared, lengthOf, normalized, unitPerp, near}
 use Rattle.intersections.specs.Lines.{inSpan, lineLine}
-use Rattle.intersections.specs.Points.{pointAt}
+use Rattle.intersections.specs.Points.{pointAt, distanceSquared}
+use Rattle.segments.specs.Modes.{roundBy, pointedBy}
+use Rattle.segments.specs.declared.Settings.{Settings}
 use Rattle.segments.specs.Vertex.{bulgeIsZero}
 use Rattle.segments.specs.Segment.{offsetLine, offsetSeg}
 use Rattle.meetings.specs.Meetings.{lineLineMeeting, clampParam, meetingPoint}
 use Rattle.joins.specs.Connector.{clampCos, clampSin, bulgeSize, connectorBulge}
 use Rattle.joins.specs.Join.{tangentTurn, turnOf, rounded, joinOf}
+use Rattle.joins.specs.Corner.{withinRatio, pointedIf, cornered, cornerJoin}
 use Rattle.moves.specs.Moves as Moves
 use Rattle.moves.specs.Reason.{spanReason}
-use Rattle.moves.specs.Made.{spanMove, connectorMove}
+use Rattle.moves.specs.Made.{spanMove, connectorMove, tipMove, tipMoves, connectorMoves}
 use Rattle.moves.specs.declared.Origin.{Origin}
 use Rattle.moves.specs.declared.Origin.the-variants.{Span, Connector}
 use Rattle.moves.specs.Drawing.{corners, flagsOf, marks, drawnOpen, drawnClosed, finiteVertex, allFinite, originsOf}
 use Rattle.sheet.specs.Buffers.{Buffers, buffers, flat, shown}
 use Rattle.source.specs.Source.{verticesOf, segmentsOf, around}
 use Rattle.refusals.specs.Limits.{inside, goodVertex, goodOffset, goodEps, numberTests, repeats, neighbourTests, repeatTests, firstFrom}
-use Rattle.walk.specs.Walk.{connectorMoves, joinAt, walk, openLast, closedLast, lastVertex, closingJoin, walkStart, walkMoves, walkDrawing, loneCollapsed, drawingOf}
+use Rattle.walk.specs.Walk.{joinAt, walk, openLast, closedLast, lastVertex, closingJoin, walkStart, walkMoves, walkDrawing, loneCollapsed, drawingOf}
 use Rattle.job.specs.declared.RawOffsetAnswer.the-variants.{Done}
 use Rattle.job.specs.Verdict.{roomFor, finiteVerdict, distinctVerdict, roomyVerdict, verdictOf}
 use Rattle.job.specs.Job.{Outcome, hasRoom, jobOf}
@@ -37,7 +40,7 @@ unfolding ofBits neg add sub mul div lt le eq when_give_else_ _and_ _or_ absOf w
 reckoned = tt
 
 unfoldable pub joined : Unit {0}
-unfolding inSpan lineLine pointAt bulgeIsZero offsetLine offsetSeg lineLineMeeting clampParam meetingPoint clampCos clampSin bulgeSize connectorBulge tangentTurn turnOf rounded joinOf
+unfolding inSpan lineLine pointAt bulgeIsZero offsetLine offsetSeg lineLineMeeting clampParam meetingPoint clampCos clampSin bulgeSize connectorBulge tangentTurn turnOf rounded joinOf distanceSquared withinRatio pointedIf cornered cornerJoin
 joined = tt
 
 unfoldable pub judged : Unit {0}
@@ -45,18 +48,18 @@ unfolding verticesOf segmentsOf around inside goodVertex goodOffset goodEps numb
 judged = tt
 
 unfoldable pub walked : Unit {0}
-unfolding spanReason spanMove connectorMove connectorMoves joinAt walk openLast closedLast lastVertex closingJoin walkStart walkMoves walkDrawing loneCollapsed drawingOf
+unfolding spanReason spanMove connectorMove tipMove tipMoves connectorMoves joinAt walk openLast closedLast lastVertex closingJoin walkStart walkMoves walkDrawing loneCollapsed drawingOf
 walked = tt
 
 unfoldable pub laid : Unit {0}
 unfolding Moves.kept Moves.lastPoint corners flagsOf marks originsOf drawnOpen drawnClosed finiteVertex allFinite flat shown
 laid = tt
 
--- a job, at ε = 1e-5, and what it gives: 2n, the numbers of its vertices, flags, indexes, origins, closed mark
+-- a job, at ε = 1e-5, and what it gives: its room, the numbers of its vertices, flags, indexes, origins, closed mark
 pub record Row : Type 0 where
   pub closed : Bool
   pub source : List Float
-  pub offset : Float
+  pub settings : Settings
   pub places : ℕ
   pub vertices : List Float
   pub flags : List ℕ
@@ -73,6 +76,13 @@ eps-nearest = refl
 
 abbrev pub minusOne : Float
 minusOne = ofBits binary64 0xbff0_0000_0000_0000
+
+abbrev pub five : Float
+five = ofBits binary64 0x4014_0000_0000_0000
+
+-- any number, by its bits
+abbrev f : ℕ → Float
+f bits = ofBits binary64 bits
 
 abbrev pub three : Float
 three = ofBits binary64 0x4008_0000_0000_0000
@@ -91,7 +101,7 @@ span i = Span (record { 0 = i })
 abbrev pub link : ℕ → Origin
 link i = Connector (record { 0 = i })
 
--- what stands in the buffers before: 7, 9 and the connector of segment 9, in 2n places and one more
+-- what stands in the buffers before: 7, 9 and the connector of segment 9, in its room and one place more
 abbrev pub before : Row → Buffers
 before r = buffers (replicate (3 * r .places + 3) (ofBits binary64 0x401c_0000_0000_0000)) (replicate (r .places + 1) 9) (replicate (r .places + 1) 9) (replicate (r .places + 1) (link 9))
 
@@ -106,7 +116,7 @@ after r =
     (filled (span 0) (r .places) (r .origins) (link 9 ∷ []))
 
 abbrev pub worked : Row → Outcome
-worked r = jobOf (r .source) (r .closed) (record { offset = r .offset; eps = eps }) (before r)
+worked r = jobOf (r .source) (r .closed) (r .settings) (before r)
 
 abbrev pub written : Row → Outcome
 written r = record { answer = Done (record { vertices = length (r .vertices) / 3; indexes = length (r .indexes); closed = r .mark }); buffers = after r }
@@ -121,7 +131,7 @@ abbrev pub sides : List Origin
 sides = span 0 ∷ span 1 ∷ span 2 ∷ span 3 ∷ []
 
 abbrev pub row : Bool → List Float → Float → ℕ → List Float → List ℕ → List ℕ → List Origin → Bool → Row
-row c s o n vs fs is os m = record { closed = c; source = s; offset = o; places = n; vertices = vs; flags = fs; indexes = is; origins = os; mark = m }
+row c s o n vs fs is os m = record { closed = c; source = s; settings = roundBy o eps; places = n; vertices = vs; flags = fs; indexes = is; origins = os; mark = m }
 
 abbrev pub rows : List Row
 rows =
@@ -139,3 +149,31 @@ rows =
 pub p-rows : map worked rows ≡ map written rows
 unfolding reckoned joined judged walked laid
 p-rows = refl
+
+-- ---- 02's 2026-13, by the same words: a closed square, whose four tips lie at √2 of the offset, up to ratios 2 and 1; and both sides of the test equal, at a ratio of 1.25
+abbrev pub sharp : Bool → List Float → Float → Float → ℕ → List Float → List ℕ → List Origin → Row
+sharp c s o ratio n vs fs os = record { closed = c; source = s; settings = pointedBy o eps ratio; places = n; vertices = vs; flags = fs; indexes = []; origins = os; mark = c }
+
+-- a round corner's bulge, of either side
+abbrev pub quarter : Float
+quarter = ofBits binary64 0x3fda_8279_99fc_ef33
+
+abbrev pub outside : List Origin
+outside = span 0 ∷ link 0 ∷ link 0 ∷ span 1 ∷ link 1 ∷ link 1 ∷ span 2 ∷ link 2 ∷ link 2 ∷ span 3 ∷ link 3 ∷ link 3 ∷ []
+
+abbrev pub pointed : List Row
+pointed =
+    sharp true square minusOne two 12
+    (at zero minusOne (at four minusOne (at five minusOne (at five zero (at five four (at five five (at four five (at zero five (at minusOne five (at minusOne four (at minusOne zero (at minusOne minusOne []))))))))))))
+    (replicate 12 0) outside ∷
+    sharp true square minusOne one 12
+    (at zero minusOne (bent four minusOne quarter (at five zero (bent five four quarter (at four five (bent zero five quarter (at minusOne four (bent minusOne zero quarter []))))))))
+    (replicate 8 0) (span 0 ∷ link 0 ∷ span 1 ∷ link 1 ∷ span 2 ∷ link 2 ∷ span 3 ∷ link 3 ∷ []) ∷
+    sharp false (at zero zero (at (f 0x4024_0000_0000_0000) zero (at (f 0x4031_0000_0000_0000) (f 0xc038_0000_0000_0000) []))) (f 0x4039_0000_0000_0000) (f 0x3ff4_0000_0000_0000) 6
+    (at zero (f 0x4039_0000_0000_0000) (at (f 0x4024_0000_0000_0000) (f 0x4039_0000_0000_0000) (at (f 0x403c_c000_0000_0000) (f 0x4039_0000_0000_0000) (at (f 0x4041_0000_0000_0000) (f 0x401c_0000_0000_0001) (at (f 0x4044_8000_0000_0000) (f 0xc031_0000_0000_0000) [])))))
+    (0 ∷ 0 ∷ 0 ∷ 0 ∷ []) (span 0 ∷ link 0 ∷ link 0 ∷ span 1 ∷ []) ∷
+    []
+
+pub pointed-rows : map worked pointed ≡ map written pointed
+unfolding reckoned joined judged walked laid
+pointed-rows = refl

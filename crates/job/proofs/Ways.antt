@@ -74,9 +74,9 @@ module _ (j : Job) where
 
   -- whether the room asked for fits
   abbrev fits : Bool
-  fits = hasRoom (j .buffers) (roomFor (j .closed) (length points))
+  fits = hasRoom (j .buffers) (roomFor (j .settings .corners) (j .closed) (length points))
 
-  pub room-is : roomFor (j .closed) (length points) ≡ places j
+  pub room-is : roomFor (j .settings .corners) (j .closed) (length points) ≡ places j
   unfolding roomFor
   room-is = rw (length-vertices (j .source))
 

@@ -31,6 +31,6 @@ pub record Demand1 (j : Job) : Type 0 where
   pub placeless : (number (outcome j .answer) ≡ 3 → ⊥) → (number (outcome j .answer) ≡ 5 → ⊥) → place (outcome j .answer) ≡ 0
   -- a refusal has counts 0 and is open
   pub counts : 1 ≤ number (outcome j .answer) → result (outcome j .answer) ≡ emptyResult
-  -- Nos. 1 to 5 change no buffer; No. 6 leaves zeros in the first 2n places of each, and the others as they were
+  -- Nos. 1 to 5 change no buffer; No. 6 leaves zeros in the places asked for of each, and the others as they were
   pub unchanged : 1 ≤ number (outcome j .answer) → number (outcome j .answer) ≤ 5 → outcome j .buffers ≡ j .buffers
   pub zeroed : number (outcome j .answer) ≡ 6 → outcome j .buffers ≡ shown (places j) nothing (j .buffers)

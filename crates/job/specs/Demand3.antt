@@ -86,7 +86,7 @@ pub record Demand3 (j : Job) : Type 0 where
   pub walk : WalkOf j start moves
   pub ks : List Move
   pub choice : OneChoice moveEnd (close j) start moves ks
-  -- the output, in the answer and in the first 2n places of the buffers, is that choice with the closing rule
+  -- the output, in the answer and in the first places of the buffers, is that choice with the closing rule
   pub drawing : Drawing
   pub answer : outcome j .answer ≡ Done (resultOf drawing)
   pub buffers : outcome j .buffers ≡ shown (places j) drawing (j .buffers)

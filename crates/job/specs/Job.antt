@@ -58,4 +58,4 @@ unfoldable pub jobOf : List Float → Bool → Settings → Buffers → Outcome
 jobOf source closed σ old =
     let vs = verticesOf source in
     when not (eqb (length source % 3) 0) give placed 0 (refused Ragged) old else
-    placed (roomFor closed (length vs)) (verdictOf (hasRoom old) closed σ vs) old
+    placed (roomFor (σ .corners) closed (length vs)) (verdictOf (hasRoom old) closed σ vs) old

@@ -1,5 +1,6 @@
 pub mod Verdict
 pub mod Job
+pub mod Handed
 pub mod Rows
 pub mod Demand1
 pub mod Demand3

@@ -12,7 +12,7 @@ use Rattle.segments.specs.declared.Settings.{Settings}
 use Rattle.source.specs.Source.{verticesOf, segmentsOf}
 use Rattle.refusals.specs.Rows.{NumberRow, RepeatedRow}
 use Rattle.sheet.specs.Buffers.{Buffers, flat}
-use Rattle.walk.specs.Walk.{drawingOf}
+use Rattle.walk.specs.Walk.{movesASegment, drawingOf}
 use Rattle.job.specs.Job.{Outcome, jobOf, number, place}
 
 -- what comes into a job
@@ -29,9 +29,9 @@ outcome j = jobOf (j .source) (j .closed) (j .settings) (j .buffers)
 abbrev pub count : Job → ℕ
 count j = length (j .source) / 3
 
--- 2n
+-- 2n, or 3n in the pointed mode
 abbrev pub places : Job → ℕ
-places j = 2 * segmentsOf (j .closed) (count j)
+places j = movesASegment (j .settings .corners) * segmentsOf (j .closed) (count j)
 
 -- refusal n is given, at place k
 pub record Given (j : Job) (n k : ℕ) : Type 0 where
@@ -78,7 +78,7 @@ pub record Row3 (j : Job) (k : ℕ) : Type 0 where
   pub whole : Whole j
   pub bad : NumberRow (verticesOf (j .source)) (j .settings) k
 
--- fewer than 2n vertices, flags, indexes or origins fit
+-- fewer than so many vertices, flags, indexes or origins fit
 pub data Short (j : Job) : Type 0 where
   vertices : length (j .buffers .vertices) / 3 < places j → Short j
   flags : length (j .buffers .flags) < places j → Short j

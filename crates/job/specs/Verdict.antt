@@ -8,6 +8,7 @@ use lib.ListN.{length}
 use lib.Ieee.{eq}
 use Rattle.floats.specs.Binary64.{zero}
 use Rattle.floats.specs.Choice.{when_give_else_}
+use Rattle.segments.specs.declared.Corners.{Corners}
 use Rattle.segments.specs.declared.Settings.{Settings}
 use Rattle.segments.specs.declared.PlineVertex.{PlineVertex}
 use Rattle.source.specs.Source.{segmentsOf}
@@ -17,7 +18,7 @@ use Rattle.refusals.specs.declared.Place.{Place}
 use Rattle.refusals.specs.declared.Place.the-variants.{Nowhere, At}
 use Rattle.refusals.specs.Limits.{numberTests, repeatTests, firstOf}
 use Rattle.moves.specs.Drawing.{Drawing, nothing, allFinite}
-use Rattle.walk.specs.Walk.{drawingOf, copied}
+use Rattle.walk.specs.Walk.{movesASegment, drawingOf, copied}
 
 pub data Verdict : Type 0 where
   refused : Refusal → Verdict
@@ -29,12 +30,9 @@ abbrev pub refuse_at_else_ : (ℕ → Refusal) → Place → Verdict → Verdict
 refuse r at At k else next = refused (r k)
 refuse r at Nowhere else next = next
 
--- moves a segment, from which the room follows
-abbrev pub movesASegment : ℕ
-movesASegment = 2
-
-unfoldable pub roomFor : Bool → ℕ → ℕ
-roomFor closed v = movesASegment * segmentsOf closed v
+-- 01's 2n, and 3n in the pointed mode
+unfoldable pub roomFor : Corners → Bool → ℕ → ℕ
+roomFor corners closed v = movesASegment corners * segmentsOf closed v
 
 -- No. 6: a NaN or an infinity among the numbers drawn
 unfoldable pub finiteVerdict : Drawing → Verdict
@@ -57,4 +55,4 @@ verdictOf fits closed σ vs =
     when ltb 4096 (length vs) give refused TooMany else
     refuse BadNumber at firstOf (numberTests vs σ) else
     when ltb (length vs) 2 give drawn nothing else
-    roomyVerdict (fits (roomFor closed (length vs))) closed σ vs
+    roomyVerdict (fits (roomFor (σ .corners) closed (length vs))) closed σ vs

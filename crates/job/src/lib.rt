@@ -3,13 +3,15 @@ ghost use mathlib.Core.Path.{_≡_};
 ghost use Prim.Native.Nat.{_/_};
 ghost use lib.Dec.{leb};
 ghost use Rattle.floats.specs.Choice.{_and_};
-ghost use Rattle.source.specs.Source.{verticesOf};
+ghost use Rattle.segments.specs.Modes.{arePointed, roundBy, pointedBy};
+ghost use Rattle.source.specs.Source.{verticesOf, segmentsOf};
 ghost use Rattle.moves.specs.Origins.{originsIn};
 ghost use Rattle.sheet.specs.Buffers.{buffers};
-ghost use Rattle.sheet.specs.InnerSteps.{Ready};
-ghost use Rattle.job.specs.Verdict.{roomFor, distinctVerdict};
+ghost use Rattle.sheet.specs.InnerSteps.{Drawable};
+ghost use Rattle.job.specs.Handed.{fiveOf};
+ghost use Rattle.job.specs.Verdict.{distinctVerdict};
 ghost use Rattle.job.specs.Job.{number, place, result, ending, placed, jobOf};
-ghost use Rattle.job.specs.InnerSteps.{Counted, fromRoom};
+ghost use Rattle.job.specs.InnerSteps.{movesIf, Counted, fromRoom};
 use moves::RawOffsetResult;
 use refusals::Place;
 use refusals::Refusal;
@@ -54,22 +56,96 @@ impl RawOffsetAnswer {
     }
 }
 
+// What a caller in C is handed of an answer: its number, and in `five` number, place, count of vertices,
+// count of indexes, and 1 where the drawing is closed.
+pub fn hand(answer: RawOffsetAnswer, five: &mut [u32; 5]) -> u32
+    ensures { λ r. ⌜ (r ≡ number answer) × (now (five .exit) ≡ fiveOf answer) ⌝ }
+{
+    let n = answer.number();
+    let k = answer.place();
+    let r = answer.result();
+    *five = [n, k, r.vertices, r.indexes, r.closed as u32];
+    n
+}
+
 const MOST_VERTICES: usize = 4096;
 
-// A span and a connector.
-const MOVES_A_SEGMENT: usize = 2;
+// A span and its connectors: two in the pointed mode.
+fn moves_a_segment(pointed: bool) -> usize
+    ensures { λ r. ⌜ r ≡ movesIf pointed ⌝ }
+{
+    if pointed {
+        return 3;
+    }
+    2
+}
 
-// Offsets a drawing into the four lent buffers. `source` has three numbers a vertex: x, y, bulge.
-// Any numbers may come in; the answer says what became of the job.
+// Offsets a drawing into the four lent buffers, with round corners. `source` has three numbers a vertex:
+// x, y, bulge. Any numbers may come in; the answer says what became of the job.
 pub fn create_raw_offset(
     source: &[f64],
     closed: bool,
-    settings: Settings,
+    offset: f64,
+    eps: f64,
     vertices: &mut [f64],
     flags: &mut [u8],
     indexes: &mut [u32],
     origins: &mut [u32],
 ) -> RawOffsetAnswer
+    ensures { λ r. ⌜ ending r (buffers (now (vertices .exit)) (now (flags .exit)) (now (indexes .exit)) (originsIn (now (origins .exit))))
+        ≡ jobOf (now (source .entry)) closed (roundBy offset eps) (buffers (now (vertices .entry)) (now (flags .entry)) (now (indexes .entry)) (originsIn (now (origins .entry)))) ⌝ }
+{
+    offset_drawing(
+        source,
+        closed,
+        Settings::round(offset, eps),
+        false,
+        vertices,
+        flags,
+        indexes,
+        origins,
+    )
+}
+
+// The same with pointed corners, up to a ratio (2026-13).
+pub fn create_raw_offset_pointed(
+    source: &[f64],
+    closed: bool,
+    offset: f64,
+    eps: f64,
+    ratio: f64,
+    vertices: &mut [f64],
+    flags: &mut [u8],
+    indexes: &mut [u32],
+    origins: &mut [u32],
+) -> RawOffsetAnswer
+    ensures { λ r. ⌜ ending r (buffers (now (vertices .exit)) (now (flags .exit)) (now (indexes .exit)) (originsIn (now (origins .exit))))
+        ≡ jobOf (now (source .entry)) closed (pointedBy offset eps ratio) (buffers (now (vertices .entry)) (now (flags .entry)) (now (indexes .entry)) (originsIn (now (origins .entry)))) ⌝ }
+{
+    offset_drawing(
+        source,
+        closed,
+        Settings::pointed(offset, eps, ratio),
+        true,
+        vertices,
+        flags,
+        indexes,
+        origins,
+    )
+}
+
+// In either mode, which is told beside the settings (joins::outer_corner).
+fn offset_drawing(
+    source: &[f64],
+    closed: bool,
+    settings: Settings,
+    pointed: bool,
+    vertices: &mut [f64],
+    flags: &mut [u8],
+    indexes: &mut [u32],
+    origins: &mut [u32],
+) -> RawOffsetAnswer
+    requires { ⌜ pointed ≡ arePointed (settings .corners) ⌝ }
     ensures { λ r. ⌜ ending r (buffers (now (vertices .exit)) (now (flags .exit)) (now (indexes .exit)) (originsIn (now (origins .exit))))
         ≡ jobOf (now (source .entry)) closed settings (buffers (now (vertices .entry)) (now (flags .entry)) (now (indexes .entry)) (originsIn (now (origins .entry)))) ⌝ }
 {
@@ -92,6 +168,7 @@ pub fn create_raw_offset(
         v,
         closed,
         settings,
+        pointed,
         vertices,
         flags,
         indexes,
@@ -112,16 +189,17 @@ fn offset_good(
     v: usize,
     closed: bool,
     settings: Settings,
+    pointed: bool,
     vertices: &mut [f64],
     flags: &mut [u8],
     indexes: &mut [u32],
     origins: &mut [u32],
 ) -> RawOffsetAnswer
-    requires { ⌜ Counted v (now source) ⌝ }
+    requires { ⌜ Counted v (now source) × (pointed ≡ arePointed (settings .corners)) ⌝ }
     ensures { λ r. ⌜ ending r (buffers (now (vertices .exit)) (now (flags .exit)) (now (indexes .exit)) (originsIn (now (origins .exit))))
         ≡ fromRoom v (now (source .entry)) closed settings (buffers (now (vertices .entry)) (now (flags .entry)) (now (indexes .entry)) (originsIn (now (origins .entry)))) ⌝ }
 {
-    let room = MOVES_A_SEGMENT * source::segment_count(v, closed);
+    let room = moves_a_segment(pointed) * source::segment_count(v, closed);
     if !has_room(
         room,
         vertices.len(),
@@ -136,6 +214,7 @@ fn offset_good(
             source,
             v,
             closed,
+            room,
             vertices,
             flags,
             indexes,
@@ -147,6 +226,8 @@ fn offset_good(
         v,
         closed,
         settings,
+        pointed,
+        room,
         vertices,
         flags,
         indexes,
@@ -160,14 +241,16 @@ fn offset_nonzero(
     v: usize,
     closed: bool,
     settings: Settings,
+    pointed: bool,
+    room: usize,
     vertices: &mut [f64],
     flags: &mut [u8],
     indexes: &mut [u32],
     origins: &mut [u32],
 ) -> RawOffsetAnswer
-    requires { ⌜ Ready v (roomFor closed v) (now source) (buffers (now vertices) (now flags) (now indexes) (originsIn (now origins))) ⌝ }
+    requires { ⌜ Drawable v (segmentsOf closed v) room settings pointed (now source) (buffers (now vertices) (now flags) (now indexes) (originsIn (now origins))) ⌝ }
     ensures { λ r. ⌜ ending r (buffers (now (vertices .exit)) (now (flags .exit)) (now (indexes .exit)) (originsIn (now (origins .exit))))
-        ≡ placed (roomFor closed v) (distinctVerdict closed settings (verticesOf (now (source .entry)))) (buffers (now (vertices .entry)) (now (flags .entry)) (now (indexes .entry)) (originsIn (now (origins .entry)))) ⌝ }
+        ≡ placed room (distinctVerdict closed settings (verticesOf (now (source .entry)))) (buffers (now (vertices .entry)) (now (flags .entry)) (now (indexes .entry)) (originsIn (now (origins .entry)))) ⌝ }
 {
     let repeated = refusals::first_repeated(source, v, closed);
     if let Place::At(k) = repeated {
@@ -178,6 +261,8 @@ fn offset_nonzero(
         v,
         closed,
         settings,
+        pointed,
+        room,
         vertices,
         flags,
         indexes,

@@ -21,7 +21,7 @@ use Rattle.moves.specs.Drawing.{finiteVertex}
 use Rattle.moves.specs.InnerSteps.{strokeOf, penAfter, stepOf, withBulge}
 use Rattle.moves.proofs.Laws.{add-two}
 use Rattle.walk.specs.declared.Turned.{Turned}
-use Rattle.walk.specs.InnerSteps.{drawnBy, turnStrokes}
+use Rattle.walk.specs.InnerSteps.{afterSpan, madeBy, drawnBy, strokesBy}
 use Rattle.sheet.specs.declared.Later.{Later}
 use Rattle.sheet.specs.InnerSteps.{Reached, Laid, putAt, stored, stores, bulgedAt, reachedLater, bulged, laterOf}
 use Rattle.sheet.proofs.Stored.{stores-counted}
@@ -99,18 +99,18 @@ stored-straight pen m sweep l z =
     let f = last-alone (finite (pen .last .x) and finite (pen .last .y)) (finite (bulgeOf sweep)) (l .places .finite) in
     rw (z, finite-zero, v, f)
 
--- ---- the strokes of a turn: of its span and its connector
+-- ---- the strokes of a turn: of its span and its connectors
 module _ (t : Turned) (ε : Float) (l : Laid) (z : t .span .bulge ≡ zero) where
-  pub later : stores (turnStrokes (t .walk .leading) (t .walk .pen) (withBulge (bulgeBy (t .curved) (t .sweep)) (t .span)) (t .connector) ε) l
-      ≡ bulged (laterOf (l .places .strokes) t ε) (stores (turnStrokes (t .walk .leading) (t .walk .pen) (t .span) (t .connector) ε) l)
-  unfolding drawnBy stepOf penAfter
+  pub later : stores (strokesBy (t .walk .leading) (t .walk .pen) (withBulge (bulgeBy (t .curved) (t .sweep)) (t .span) ∷ afterSpan t) ε) l
+      ≡ bulged (laterOf (l .places .strokes) t ε) (stores (strokesBy (t .walk .leading) (t .walk .pen) (madeBy t) ε) l)
+  unfolding strokesBy drawnBy stepOf penAfter
   later = by (t .curved) (eqb (t .walk .leading) 0 and stepOf (t .walk .pen) (t .span) ε .kept)
     where
       m : Move
       m = t .span
 
       rest : List Stroke
-      rest = drawnBy (t .walk .leading) (stepOf (stepOf (t .walk .pen) (t .span) ε .pen) (t .connector) ε)
+      rest = strokesBy (t .walk .leading) (stepOf (t .walk .pen) (t .span) ε .pen) (afterSpan t) ε
 
       by : (curved d : Bool) → stores ((when d give strokeOf (t .walk .pen) (withBulge (bulgeBy curved (t .sweep)) m) ∷ [] else []) ++ rest) l
           ≡ bulged (left (l .places .strokes) (t .sweep) (curved and d)) (stores ((when d give strokeOf (t .walk .pen) m ∷ [] else []) ++ rest) l)
@@ -121,12 +121,13 @@ module _ (t : Turned) (ε : Float) (l : Laid) (z : t .span .bulge ≡ zero) wher
           ∙ stores-after (l .places .strokes) (t .sweep) rest (stored (strokeOf (t .walk .pen) m) l) (one-more (strokeOf (t .walk .pen) m) l)
 
 pub later-placed : (t : Turned) (ε : Float) (l : Laid) → laterOf (l .places .strokes) t ε .due ≡ true
-    → l .places .strokes < stores (turnStrokes (t .walk .leading) (t .walk .pen) (t .span) (t .connector) ε) l .places .strokes
+    → l .places .strokes < stores (strokesBy (t .walk .leading) (t .walk .pen) (madeBy t) ε) l .places .strokes
+unfolding strokesBy
 later-placed t ε l h =
     let first = stepOf (t .walk .pen) (t .span) ε in
-    let c = stores-counted (turnStrokes (t .walk .leading) (t .walk .pen) (t .span) (t .connector) ε) l in
+    let c = stores-counted (strokesBy (t .walk .leading) (t .walk .pen) (madeBy t) ε) l in
     let n : 1 ≤ length (drawnBy (t .walk .leading) first) = unfold drawnBy in some (t .curved) (eqb (t .walk .leading) 0 and first .kept) (first .stroke) h in
-    let a = length-append (drawnBy (t .walk .leading) first) (drawnBy (t .walk .leading) (stepOf (first .pen) (t .connector) ε)) in
+    let a = length-append (drawnBy (t .walk .leading) first) (strokesBy (t .walk .leading) (first .pen) (afterSpan t) ε) in
     omega arith
   where
     some : (a b : Bool) (s : Stroke) → (a and b) ≡ true → 1 ≤ length (when b give s ∷ [] else [])

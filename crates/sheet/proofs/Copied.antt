@@ -30,21 +30,17 @@ source-room false v h = rw (segments-open v h) (omega arith)
 buffers-same : {v v′ : List Float} {f f′ i i′ : List ℕ} {o o′ : List Origin} → v ≡ v′ → f ≡ f′ → i ≡ i′ → o ≡ o′ → buffers v f i o ≡ buffers v′ f′ i′ o′
 buffers-same a b c d = cc
 
-module _ (closed : Bool) (s : List Float) (v : ℕ) (old : Buffers) (ready : Ready v (2 * segmentsOf closed v) s old) where
-  abbrev room : ℕ
-  room = 2 * segmentsOf closed v
-
+module _ (closed : Bool) (s : List Float) (v room : ℕ) (old : Buffers) (ready : Ready v room s old) (enough : 2 * segmentsOf closed v ≤ room) where
   -- the room takes the source
   pub source-fits : 3 * v ≤ length (old .vertices)
   source-fits = omega (arith, source-room closed v (ready .two))
 
-  pub source-within : (l : List Float) → length l ≡ length (old .vertices) → Within room v 0 0 (buffers l (old .flags) (old .indexes) (old .origins))
-  source-within l h =
+  pub source-within : room ≤ 12288 → (l : List Float) → length l ≡ length (old .vertices) → Within room v 0 0 (buffers l (old .flags) (old .indexes) (old .origins))
+  source-within small l h =
       let f = source-room closed v (ready .two) in
-      let m = segments-most closed v in
       record {
-        small = omega arith;
-        from-vertex = f;
+        small = small;
+        from-vertex = omega arith;
         from-flag = omega arith;
         from-index = omega arith;
         vertices = omega arith;

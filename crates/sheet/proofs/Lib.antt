@@ -1,3 +1,4 @@
+pub mod Products
 pub mod Flat
 pub mod Over
 pub mod Writing

@@ -4,8 +4,6 @@ use mathlib.Core.List.{List, [], _∷_}
 use mathlib.Core.Bool.{Bool, true, false, false≢true}
 use Prim.Native.Nat.{ℕ, zero, suc, _+_, _*_, _-_, _<_, _≤_}
 use native.Mathlib.Omega.{arith}
-use borrow.Author.Tests.{eqb-true}
-use lib.Dec.{eqb}
 use lib.ListN.{length, replicate, length-append}
 use lib.Ieee.{Float}
 use Rattle.floats.specs.Binary64 as B
@@ -13,24 +11,33 @@ use Rattle.floats.specs.Choice.{when_give_else_, _and_}
 use Rattle.angles.specs.Angle.{bulgeOf}
 use Rattle.segments.specs.declared.PlineVertex.{PlineVertex}
 use Rattle.segments.specs.declared.Settings.{Settings}
+use Rattle.segments.specs.Modes.{arePointed}
+use Rattle.segments.specs.Vertex.{posOf}
+use Rattle.segments.specs.Segment.{offsetSeg}
 use Rattle.segments.specs.InnerSteps.{chordOf}
+use Rattle.joins.specs.Corner.{isPointed}
+use Rattle.joins.proofs.Corner.{ruled-tip-mode}
 use Rattle.source.specs.InnerSteps.{vertexOf, nextOf}
 use Rattle.sweeps.specs.InnerSteps.{Memo}
 use Rattle.sweeps.proofs.Slots.{kept-none}
 use Rattle.moves.specs.declared.Pen.{Pen}
-use Rattle.moves.specs.declared.Stepped.{Stepped}
-use Rattle.moves.specs.Made.{segmentOf, spanMove, connectorMove}
-use Rattle.moves.specs.InnerSteps.{penAfter, stepOf}
+use Rattle.moves.specs.declared.Move.{Move}
+use Rattle.moves.specs.Made.{segmentOf, spanMove}
+use Rattle.moves.specs.InnerSteps.{penAfter, stepOf, tipFirst}
 use Rattle.walk.specs.declared.Walk.{Walk}
 use Rattle.walk.specs.declared.Turned.{Turned}
-use Rattle.walk.specs.InnerSteps.{Standing, stands, Stood, stood, Fit, standingAt, entering, afterTurn, Turn, turnTo, turnShown, drawnBy, turnStrokes, penTurned, advance}
+use Rattle.walk.specs.InnerSteps.{Standing, stands, Stood, stood, Fit, standingAt, entering, afterTurn, Turn, turnTo, turnShown, afterSpan, madeBy, strokesBy, penBy, advance}
+use Rattle.walk.specs.Walk.{movesASegment}
+use Rattle.walk.proofs.Turning.{led-undrawn}
+use Rattle.walk.proofs.Lengths.{moves-few, two-moves, connectors-few}
 use Rattle.sheet.specs.declared.Places.{Places}
 use Rattle.sheet.specs.declared.Later.{Later}
 use Rattle.sheet.specs.declared.Sheet.{Sheet}
 use Rattle.sheet.specs.Buffers.{Buffers, buffers}
-use Rattle.sheet.specs.InnerSteps.{noPlaces, Reached, reached, Laid, laid, stores, bulgedAt, reachedLater, bulged, laterOf, Trail, trail, trailLater, advanced, advances, routed, Coded, Rooms, Alike, Turns, Ready, Entered}
+use Rattle.sheet.specs.InnerSteps.{noPlaces, Reached, reached, Laid, laid, stores, bulgedAt, reachedLater, bulged, laterOf, Trail, trail, trailLater, advanced, advances, routed, Coded, Rooms, Alike, Turns, Ready, Drawable, Entered}
 use Rattle.sheet.proofs.Stored.{Counted, stores-counted}
-use Rattle.sheet.proofs.Storing.{step-number}
+use Rattle.sheet.proofs.Products.{product-one, product-less, product-most, product-turns}
+use Rattle.sheet.proofs.Storing.{strokes-few, numbers-few}
 use Rattle.sheet.proofs.Bulges.{later, later-placed}
 
 -- ---- what a turn adds
@@ -42,52 +49,52 @@ after-turn closed pen zero w = (omega arith, omega arith, omega arith, refl)
 after-turn closed pen (suc zero) w = (omega arith, omega arith, omega arith, refl)
 after-turn closed pen (suc (suc n)) w = (omega arith, omega arith, omega arith, refl)
 
-pub drawn-few : (n : ℕ) (st : Stepped) → length (drawnBy n st) ≤ 1 - n
-unfolding drawnBy
-drawn-few n st = by (eqb n 0) (st .kept) refl
-  where
-    by : (z t : Bool) → eqb n 0 ≡ z → length (when z and t give st .stroke ∷ [] else []) ≤ 1 - n
-    by true true h = unfold when_give_else_ _and_ in omega (arith, eqb-true n 0 h)
-    by true false h = unfold when_give_else_ _and_ in omega arith
-    by false t h = unfold when_give_else_ _and_ in omega arith
+-- so many strokes at most of a row of moves, and none where it leads in
+row-few : (n m : ℕ) (pen : Pen) (ms : List Move) (e : Float) → length ms ≤ m → length (strokesBy n pen ms e) ≤ m * (1 - n)
+row-few zero m pen ms e h = let a : 1 - 0 ≡ 1 = omega arith in rw a (omega (arith, strokes-few 0 pen ms e))
+row-few (suc n) m pen ms e h = rw (led-undrawn n pen ms e) (omega arith)
 
--- one turn: two strokes at most, or none where it leads in
-pub record Moved (c : PlineVertex) (w w′ : Stood) (strokes : ℕ) : Type 0 where
+-- one turn: m strokes at most, or none where it leads in
+pub record Moved (m : ℕ) (c : PlineVertex) (w w′ : Stood) (strokes : ℕ) : Type 0 where
   pub leading : w′ .leading ≡ w .leading - 1
   pub source : w′ .walker .source .0 ≤ w .walker .source .0 + 1
-  pub number : w′ .pen .number .0 ≤ w .pen .number .0 + 2
+  pub number : w′ .pen .number .0 ≤ w .pen .number .0 + m
   pub vertex : w′ .walker .vertex ≡ c
-  pub few : strokes ≤ 2 * (1 - w .leading)
+  pub few : strokes ≤ m * (1 - w .leading)
 
-pub advance-moved : (closed : Bool) (σ : Settings) (c : PlineVertex) (w : Stood) → let a = advance closed σ c w in Moved c w (a .stood) (length (a .strokes))
+pub advance-moved : (closed : Bool) (σ : Settings) (c : PlineVertex) (w : Stood) → let a = advance closed σ c w in Moved (movesASegment (σ .corners)) c w (a .stood) (length (a .strokes))
 unfolding advance turnTo
 advance-moved closed σ c w =
     let t = turnTo (w .walker) c σ in
-    let first = stepOf (w .pen) (t .span) (σ .eps) in
-    let second = stepOf (first .pen) (t .connector) (σ .eps) in
-    let x = after-turn closed (second .pen) (w .leading) (t .walker) in
-    let f = step-number (w .pen) (t .span) (σ .eps) in
-    let g = step-number (first .pen) (t .connector) (σ .eps) in
-    let l = length-append (drawnBy (w .leading) first) (drawnBy (w .leading) second) in
-    let d = drawn-few (w .leading) first in
-    let e = drawn-few (w .leading) second in
-    record { leading = x .0; source = omega (arith, x .1); number = omega (arith, x .2); vertex = x .3; few = omega arith }
+    let ms = t .span ∷ t .connectors in
+    let k = connectors-few σ (w .walker .source .0) (w .walker .current) (offsetSeg (w .walker .vertex) c (σ .offset)) (posOf (w .walker .vertex)) in
+    let x = after-turn closed (penBy (w .pen) ms (σ .eps)) (w .leading) (t .walker) in
+    let n = numbers-few (w .pen) ms (σ .eps) in
+    record { leading = x .0; source = omega (arith, x .1); number = omega (arith, x .2, n, k); vertex = x .3; few = row-few (w .leading) _ (w .pen) ms (σ .eps) (omega (arith, k)) }
 
 -- all turns
-pub record Gone (n : ℕ) (r r′ : Trail) : Type 0 where
+pub record Gone (m n : ℕ) (r r′ : Trail) : Type 0 where
   pub source : r′ .stood .walker .source .0 ≤ r .stood .walker .source .0 + n
-  pub number : r′ .stood .pen .number .0 ≤ r .stood .pen .number .0 + 2 * n
-  pub strokes : r′ .laid .places .strokes ≤ r .laid .places .strokes + 2 * (n - r .stood .leading)
-  pub marks : r′ .laid .places .marks ≤ r .laid .places .marks + 2 * (n - r .stood .leading)
+  pub number : r′ .stood .pen .number .0 ≤ r .stood .pen .number .0 + m * n
+  pub strokes : r′ .laid .places .strokes ≤ r .laid .places .strokes + m * (n - r .stood .leading)
+  pub marks : r′ .laid .places .marks ≤ r .laid .places .marks + m * (n - r .stood .leading)
 
-pub advances-gone : (closed : Bool) (σ : Settings) (vs : List PlineVertex) (r : Trail) → Gone (length vs) r (advances closed σ vs r)
+pub advances-gone : (closed : Bool) (σ : Settings) (vs : List PlineVertex) (r : Trail) → Gone (movesASegment (σ .corners)) (length vs) r (advances closed σ vs r)
 unfolding advances advanced
 advances-gone closed σ [] r = record { source = omega arith; number = omega arith; strokes = omega arith; marks = omega arith }
 advances-gone closed σ (c ∷ vs) r =
     let m = advance-moved closed σ c (r .stood) in
     let k = stores-counted (advance closed σ c (r .stood) .strokes) (r .laid) in
     let g = advances-gone closed σ vs (advanced closed σ c r) in
-    record { source = omega arith; number = omega arith; strokes = omega arith; marks = omega arith }
+    let strokes = rw (m .leading) at (g .strokes) in
+    let marks = rw (m .leading) at (g .marks) in
+    let p = product-turns (movesASegment (σ .corners)) (length vs) (r .stood .leading) in
+    record {
+      source = omega (arith, g .source, m .source);
+      number = omega (arith, g .number, m .number);
+      strokes = omega (arith, strokes, k .strokes, m .few, p);
+      marks = omega (arith, marks, k .marks, m .few, p);
+    }
 
 -- ---- a turn of the code
 
@@ -106,16 +113,16 @@ pub record Round (closed : Bool) (σ : Settings) (c : PlineVertex) (w : Walk) (p
   pub straight : t .span .bulge ≡ B.zero
   pub same-pen : t .walk .pen ≡ w .pen
   pub same-leading : t .walk .leading ≡ w .leading
-  pub drew : laid p′ b′ ≡ stores (turnStrokes (t .walk .leading) (t .walk .pen) (t .span) (t .connector) (σ .eps)) (laid here between)
+  pub drew : laid p′ b′ ≡ stores (strokesBy (t .walk .leading) (t .walk .pen) (madeBy t) (σ .eps)) (laid here between)
   pub left : r′ ≡ laterOf (here .strokes) t (σ .eps)
-  pub moved : pen ≡ penTurned (t .walk .pen) (t .span) (t .connector) (σ .eps)
+  pub moved : pen ≡ penBy (t .walk .pen) (madeBy t) (σ .eps)
   pub after : stood w′ ≡ afterTurn closed pen (t .walk .leading) (stands (t .walk))
 
 -- what a turn leaves, by its moves
 by : Bool → Float → ℕ → Pen → Turn → Laid → Trail
 by closed ε n pen u l = record {
-  stood = afterTurn closed (penTurned pen (u .span) (u .connector) ε) n (u .walker);
-  laid = stores (turnStrokes n pen (u .span) (u .connector) ε) l;
+  stood = afterTurn closed (penBy pen (u .span ∷ u .connectors) ε) n (u .walker);
+  laid = stores (strokesBy n pen (u .span ∷ u .connectors) ε) l;
 }
 
 by-advanced : (closed : Bool) (σ : Settings) (c : PlineVertex) (r : Trail)
@@ -126,7 +133,7 @@ by-advanced closed σ c r = refl
 module _ {closed : Bool} {σ : Settings} {c : PlineVertex} {w : Walk} {p : Places} {r : Later} {b : Buffers} {t : Turned} {w′ : Walk} {p′ : Places} {r′ : Later} {b′ : Buffers}
     (x : Round closed σ c w p r b t w′ p′ r′ b′) where
   by-code : trailLater w′ p′ r′ b′ ≡ by closed (σ .eps) (t .walk .leading) (t .walk .pen) (turnShown t) (laid (x .here) (x .between))
-  unfolding by stepOf penAfter
+  unfolding by penBy stepOf penAfter
   by-code =
       let l = later t (σ .eps) (laid (x .here) (x .between)) (x .straight) in
       rw (x .after, x .moved, x .left, x .drew) (rw l)
@@ -134,7 +141,7 @@ module _ {closed : Bool} {σ : Settings} {c : PlineVertex} {w : Walk} {p : Place
   round-advanced : trailLater w′ p′ r′ b′ ≡ advanced closed σ c (trailLater w p r b)
   round-advanced = by-code ∙ rw (x .turned, x .wrote, x .same-pen, x .same-leading) (by-advanced closed σ c (trailLater w p r b))
 
-  round-moved : Moved c (stood w) (stood w′) (length (advance closed σ c (stood w) .strokes))
+  round-moved : Moved (movesASegment (σ .corners)) c (stood w) (stood w′) (length (advance closed σ c (stood w) .strokes))
   round-moved = rw (ap (λ (y : Trail). y .stood) round-advanced) (unfold advanced in advance-moved closed σ c (stood w))
 
   round-placed : Placed r′ p′
@@ -153,16 +160,23 @@ module _ {closed : Bool} {σ : Settings} {c : PlineVertex} {w : Walk} {p : Place
       record { strokes = ap (λ (y : Trail). y .laid .places .strokes) round-advanced ∙ k .strokes; marks = omega arith }
 
   -- room for the turns after it
-  round-turns : (n : ℕ) → Fit w′ → Alike b b′ → Turns (suc n) w p b → Turns n w′ p′ b′
+  round-turns : (n : ℕ) → Fit w′ → Alike b b′ → Turns (movesASegment (σ .corners)) (suc n) w p b → Turns (movesASegment (σ .corners)) n w′ p′ b′
   round-turns n f a h =
       let m = round-moved in
       let k = round-counted in
       let q = h .rooms in
+      let few = m .few in
+      let p = product-turns (movesASegment (σ .corners)) n (w .leading) in
       record {
         fit = f;
         sources = omega (arith, h .sources);
-        outputs = omega (arith, h .outputs);
-        rooms = record { vertices = omega (arith, q .vertices); flags = omega (arith, q .flags); indexes = omega (arith, q .indexes); origins = omega (arith, q .origins) };
+        outputs = omega (arith, h .outputs, m .number);
+        rooms = rw (m .leading) (record {
+          vertices = omega (arith, q .vertices, p, few);
+          flags = omega (arith, q .flags, p, few);
+          indexes = omega (arith, q .indexes, p, few);
+          origins = omega (arith, q .origins, p, few);
+        });
       }
 
 -- ---- the loop
@@ -194,13 +208,13 @@ pub record Walking (closed : Bool) (σ : Settings) (s : List Float) (v n : ℕ) 
   pub below : k < v
   pub alike : Alike b₀ b
   pub left : advances closed σ (routed v (n - i) k s) (trailLater w p r b) ≡ end
-  pub room : Turns (n - i) w p b
+  pub room : Turns (movesASegment (σ .corners)) (n - i) w p b
   pub placed : Placed r p
   pub ahead : chord ≡ chordOf (w .vertex) (vertexOf s k)
   pub memo : Memo keys sweeps
 
 module _ {closed : Bool} {σ : Settings} {s : List Float} {v n : ℕ} where
-  pub walking-none : {w : Walk} {p : Places} {r : Later} {b : Buffers} {k : ℕ} {chord : Float} → r .due ≡ false → k < v → Turns n w p b → chord ≡ chordOf (w .vertex) (vertexOf s k)
+  pub walking-none : {w : Walk} {p : Places} {r : Later} {b : Buffers} {k : ℕ} {chord : Float} → r .due ≡ false → k < v → Turns (movesASegment (σ .corners)) n w p b → chord ≡ chordOf (w .vertex) (vertexOf s k)
       → Walking closed σ s v n b (advances closed σ (routed v n k s) (trail (record { walk = w; places = p }) b)) 0 k w p r b chord (replicate 16 0) (replicate 16 B.zero)
   walking-none {w} {p} {r} {b} {k} none h t e = let z : n - 0 ≡ n = omega arith in record {
     within = omega arith;
@@ -228,7 +242,7 @@ module _ {closed : Bool} {σ : Settings} {s : List Float} {v n : ℕ} where
           left =
               rw (round-advanced x, hk .0, hc)
               (left-more closed σ s v (n - (i + 1)) k (trailLater w p r b) ∙ ap (λ j. advances closed σ (routed v j k s) (trailLater w p r b)) (sym e) ∙ on .left);
-          room = round-turns x (n - (i + 1)) f a (subst (λ j. Turns j w p b) e (on .room));
+          room = round-turns x (n - (i + 1)) f a (subst (λ j. Turns (movesASegment (σ .corners)) j w p b) e (on .room));
           placed = round-placed x;
           ahead = hd ∙ ap (λ (y : PlineVertex). chordOf y (vertexOf s k′)) (sym (round-moved x .vertex));
           memo = m;
@@ -242,25 +256,42 @@ module _ {closed : Bool} {σ : Settings} {s : List Float} {v n : ℕ} where
     pub room-later : r .due ≡ true → 3 * r .place + 3 ≤ length (b .vertices)
     room-later d = let k = on .placed d in omega (arith, on .room .rooms .vertices)
 
-    pub room-turn : (p₁ : Places) {b₁ : Buffers} → i < n → reached p₁ ≡ reachedLater r (reached p) → Alike b b₁ → w .leading ≡ 0 → Rooms 2 (laid p₁ b₁)
-    room-turn p₁ lt h a z =
+    -- its moves are those of the turn by the rules
+    turn-made : (c : PlineVertex) (t : Turned) → turnShown t ≡ turnTo (stands w) c σ → length (afterSpan t) + 1 ≤ movesASegment (σ .corners)
+    unfolding turnTo
+    turn-made c t h =
+        rw (ap (λ (u : Turn). u .connectors) h) (connectors-few σ (w .source .0) (stands w .current) (offsetSeg (w .vertex) c (σ .offset)) (posOf (w .vertex)))
+
+    pub room-turn : (c : PlineVertex) (t : Turned) → turnShown t ≡ turnTo (stands w) c σ → (p₁ : Places) {b₁ : Buffers} → i < n → reached p₁ ≡ reachedLater r (reached p) → Alike b b₁ → w .leading ≡ 0
+        → Rooms (2 + length (tipFirst (t .join) (t .connector))) (laid p₁ b₁)
+    room-turn c t made p₁ lt h a z =
         let q = on .room .rooms in
+        let l = length-append (tipFirst (t .join) (t .connector)) (t .connector ∷ []) in
+        let k = turn-made c t made in
+        let m = product-one (movesASegment (σ .corners)) (n - i - w .leading) (omega (arith, lt, z)) in
         let strokes = ap (λ (x : Reached). x .strokes) h in
         let marks = ap (λ (x : Reached). x .marks) h in
         record {
-          vertices = omega (arith, q .vertices, a .vertices);
-          flags = omega (arith, q .flags, a .flags);
-          indexes = omega (arith, q .indexes, a .indexes);
-          origins = omega (arith, q .origins, a .origins);
+          vertices = omega (arith, q .vertices, a .vertices, m, k, l);
+          flags = omega (arith, q .flags, a .flags, m, k, l);
+          indexes = omega (arith, q .indexes, a .indexes, m, k, l);
+          origins = omega (arith, q .origins, a .origins, m, k, l);
         }
 
+    -- so many numbers more fit
+    pub number-turn : i < n → w .pen .number .0 + 3 < 0x1_0000_0000
+    number-turn lt = omega (arith, on .room .outputs, product-one (movesASegment (σ .corners)) (n - i) (omega (arith, lt)), two-moves (σ .corners))
+
     -- the origins of a turn's moves fit
-    pub coded-turn : (c : PlineVertex) (t : Turned) → i < n → turnShown t ≡ turnTo (stands w) c σ → Coded (t .span .origin) × Coded (t .connector .origin)
-    unfolding turnTo spanMove connectorMove
-    coded-turn c t lt h = (
-      omega (arith, on .room .sources, ap (λ (u : Turn). segmentOf (u .span .origin)) h),
-      omega (arith, on .room .sources, ap (λ (u : Turn). segmentOf (u .connector .origin)) h),
-    )
+    pub coded-turn : (c : PlineVertex) (t : Turned) → i < n → turnShown t ≡ turnTo (stands w) c σ → Coded (t .span .origin)
+    unfolding turnTo spanMove
+    coded-turn c t lt h = omega (arith, on .room .sources, ap (λ (u : Turn). segmentOf (u .span .origin)) h)
+
+    -- it has a tip in the pointed mode alone
+    pub tipped-turn : (c : PlineVertex) (t : Turned) → turnShown t ≡ turnTo (stands w) c σ → isPointed (t .join .cause) ≡ true → arePointed (σ .corners) ≡ true
+    unfolding turnTo
+    tipped-turn c t h e =
+        ruled-tip-mode (stands w .current) (offsetSeg (w .vertex) c (σ .offset)) (posOf (w .vertex)) σ (ap (λ (u : Turn). isPointed (u .join .cause)) (sym h) ∙ e)
 
     -- the walk can be joined on
     pub walking-fit : Fit w
@@ -268,9 +299,10 @@ module _ {closed : Bool} {σ : Settings} {s : List Float} {v n : ℕ} where
 
 -- there is room for n turns at the first vertex, where m of them lead in
 pub turns-first : (n m room : ℕ) (a : PlineVertex) {v : ℕ} {h : Sheet} {s : List Float} {b : Buffers} → Ready v room s b
-    → (stood (h .walk) ≡ standingAt a m) × Fit (h .walk) × (h .places ≡ noPlaces) → n ≤ v + 2 → 2 * (n - m) ≤ room → Turns n (h .walk) (h .places) b
+    → (stood (h .walk) ≡ standingAt a m) × Fit (h .walk) × (h .places ≡ noPlaces) → (moves : ℕ) → moves ≤ 3 → n ≤ v + 2 → moves * (n - m) ≤ room → Turns moves n (h .walk) (h .places) b
 unfolding standingAt
-turns-first n m room a {h = h} r e l q =
+turns-first n m room a {h = h} r e moves three l q =
+    let most = product-most moves 3 n three in
     let source : h .walk .source .0 ≡ 0 = ap (λ (x : Stood). x .walker .source .0) (e .0) in
     let number : h .walk .pen .number .0 ≡ 0 = ap (λ (x : Stood). x .pen .number .0) (e .0) in
     let leading : h .walk .leading ≡ m = ap (λ (x : Stood). x .leading) (e .0) in
@@ -279,20 +311,27 @@ turns-first n m room a {h = h} r e l q =
     record {
       fit = e .1;
       sources = omega (arith, r .most);
-      outputs = omega (arith, r .most);
-      rooms = record { vertices = omega (arith, r .vertices); flags = omega (arith, r .flags); indexes = omega (arith, r .indexes); origins = omega (arith, r .origins) };
+      outputs = omega (arith, r .most, most);
+      rooms = rw leading (record { vertices = omega (arith, r .vertices, q); flags = omega (arith, r .flags, q); indexes = omega (arith, r .indexes, q); origins = omega (arith, r .origins, q) });
     }
 
 -- and for those once around, of a walk that is led in
-pub turns-around : {v : ℕ} {h : Sheet} {s : List Float} {b : Buffers} → Ready v (2 * v) s b → Entered h → Turns (v - 1) (h .walk) (h .places) b
-turns-around r e = record {
-  fit = e .fit;
-  sources = omega (arith, r .most, e .source);
-  outputs = omega (arith, r .most, e .number);
-  rooms = record {
-    vertices = omega (arith, r .vertices, e .strokes);
-    flags = omega (arith, r .flags, e .strokes);
-    indexes = omega (arith, r .indexes, e .marks);
-    origins = omega (arith, r .origins, e .strokes);
-  };
-}
+pub turns-around : {v room : ℕ} {σ : Settings} {pointed : Bool} {h : Sheet} {s : List Float} {b : Buffers} → Drawable v v room σ pointed s b → Entered σ h
+    → Turns (movesASegment (σ .corners)) (v - 1) (h .walk) (h .places) b
+turns-around {v} {σ = σ} d e =
+    let r = d .ready in
+    let m = product-less (movesASegment (σ .corners)) v (omega (arith, r .two)) in
+    let most = product-most (movesASegment (σ .corners)) 3 (v - 1) (moves-few (σ .corners)) in
+    let q = d .enough in
+    let z : v - 1 - 0 ≡ v - 1 = omega arith in
+    record {
+      fit = e .fit;
+      sources = omega (arith, r .most, e .source);
+      outputs = omega (arith, r .most, e .number, most);
+      rooms = rw (e .leading, z) (record {
+        vertices = omega (arith, r .vertices, e .strokes, m, q);
+        flags = omega (arith, r .flags, e .strokes, m, q);
+        indexes = omega (arith, r .indexes, e .marks, m, q);
+        origins = omega (arith, r .origins, e .strokes, m, q);
+      });
+    }

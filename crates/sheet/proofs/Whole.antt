@@ -14,6 +14,7 @@ use Rattle.vectors.specs.Plane.{near}
 use Rattle.vectors.specs.declared.Vector2.{Vector2}
 use Rattle.segments.specs.declared.PlineVertex.{PlineVertex}
 use Rattle.segments.specs.declared.Settings.{Settings}
+use Rattle.segments.specs.Modes.{arePointed}
 use Rattle.segments.specs.Vertex.{vertexAt}
 use Rattle.segments.specs.Segment.{isCollapsed}
 use Rattle.source.specs.Source.{verticesOf}
@@ -21,30 +22,35 @@ use Rattle.source.specs.InnerSteps.{vertexOf, nextOf}
 use Rattle.moves.specs.declared.Move.{Move}
 use Rattle.moves.specs.declared.Stroke.{Stroke}
 use Rattle.moves.specs.declared.Stepped.{Stepped}
-use Rattle.moves.specs.Made.{connectorMove}
+use Rattle.moves.specs.Made.{connectorMove, connectorMoves}
 use Rattle.moves.specs.Drawing.{Drawing, nothing, moveEnd, kept, lastPoint, corners, flagsOf, marks, originsOf, drawnOpen, drawnClosed, finiteVertex, allFinite, emptyResult, resultOf}
 use Rattle.moves.specs.InnerSteps.{stepOf, strokes, Fits}
 use Rattle.moves.proofs.Kept.{length-kept}
+use Rattle.moves.proofs.Tips.{either-tip}
 use Rattle.moves.proofs.Lists.{length-corners, length-flagsOf}
 use Rattle.moves.proofs.Shapes.{path, path-fits, ray, length-ray, ray-fits, nothing-fits}
 use Rattle.joins.specs.declared.JoinBoundary.{JoinBoundary}
-use Rattle.walk.specs.Walk.{closingJoin, walkStart, walkMoves, walkDrawing, loneCollapsed, drawingOf}
-use Rattle.walk.specs.InnerSteps.{stands, Stood, stood, Fit, standingAt, spanTo, lastSpan, drawnBy, turnStrokes, advance, goes, drawnOn}
+use Rattle.joins.specs.Corner.{isPointed}
+use Rattle.joins.proofs.Corner.{tip-mode}
+use Rattle.walk.specs.Walk.{movesASegment, joinAt, closingJoin, walkStart, walkMoves, walkDrawing, loneCollapsed, drawingOf}
+use Rattle.walk.specs.InnerSteps.{stands, Stood, stood, Fit, standingAt, spanTo, lastSpan, drawnBy, strokesBy, advance, goes, drawnOn}
+use Rattle.walk.proofs.Turning.{led-undrawn}
 use Rattle.walk.proofs.Around.{open-led, open-drawn, open-current, ledIn, closed-led, closed-undrawn, closed-drawn}
 use Rattle.walk.proofs.Unmet.{never-one}
-use Rattle.walk.proofs.Lengths.{open-length, closed-most}
+use Rattle.walk.proofs.Lengths.{moves-few, two-moves, three-moves, open-most, closed-most}
 use Rattle.sheet.specs.declared.Places.{Places}
 use Rattle.sheet.specs.declared.Sheet.{Sheet}
 use Rattle.sheet.specs.declared.Built.the-variants.{Done}
 use Rattle.sheet.specs.Buffers.{Buffers, flat, noOrigin, shown}
-use Rattle.sheet.specs.InnerSteps.{noPlaces, Reached, Laid, laid, putAt, stored, stores, Trail, trail, advanced, advances, routed, Alike, Ready, over, cleared, wiped, Within, Lasts, finished, finishes, finishesOpen, lasts, closes, Entered, builtOf}
+use Rattle.sheet.specs.InnerSteps.{noPlaces, Reached, Laid, laid, putAt, stored, stores, Trail, trail, advanced, advances, routed, Rooms, Alike, Ready, Drawable, over, cleared, wiped, Within, Lasts, closingMoves, finished, finishes, finishesOpen, lasts, closes, Entered, builtOf}
 use Rattle.sheet.proofs.Over.{over-sets, cleared-after, cleared-whole}
 use Rattle.sheet.proofs.Flat.{flat-snoc, length-flat}
 use Rattle.sheet.proofs.Stored.{stores-append, stores-counted, written, drawnOver, stores-drawn}
-use Rattle.sheet.proofs.Storing.{drawn, stores-last, two-stored}
+use Rattle.sheet.proofs.Products.{product-less, product-most}
+use Rattle.sheet.proofs.Storing.{stores-last, strokes-few}
 use Rattle.sheet.proofs.Bulges.{swap}
 use Rattle.sheet.proofs.Routes.{length-routed, first-two, others, last-is, open-route, lead-route, around-route}
-use Rattle.sheet.proofs.Loop.{drawn-few, advances-gone}
+use Rattle.sheet.proofs.Loop.{advances-gone}
 
 -- ---- the lists of a drawing, with zeros after them or in their place
 module _ (room : ℕ) (d : Drawing) (old : Buffers) (w : Fits room d) where
@@ -135,7 +141,7 @@ lone-is σ a b (c ∷ vs) = rw (ne-eqb (length (c ∷ vs) + 2) 2 (λ (h : length
 lone-none : (σ : Settings) (a b : PlineVertex) (vs : List PlineVertex) (l : Laid) → loneCollapsed false σ (a ∷ b ∷ vs) ≡ true
     → stores (drawnOn false σ (b ∷ vs) (standingAt a 1)) l ≡ l
 unfolding loneCollapsed
-lone-none σ a b [] l h = unfold drawnOn advance standingAt drawnBy when_give_else_ _and_ stores in refl
+lone-none σ a b [] l h = unfold drawnOn advance standingAt stores in rw (led-undrawn 0 _ _ (σ .eps))
 lone-none σ a b (c ∷ vs) l h = absurd (false≢true h)
 
 -- ---- a source that is lent: where its walk starts, and the moves of it that are kept
@@ -156,19 +162,21 @@ module _ (closed : Bool) (σ : Settings) (s : List Float) where
 abbrev walked : Bool → Settings → List PlineVertex → PlineVertex → ℕ → Buffers → Trail
 walked closed σ vs a n old = advances closed σ vs (record { stood = standingAt a n; laid = laid noPlaces old })
 
--- ---- after turns from the first places on there is room for the last moves
-pub lasts-after : (closed : Bool) (σ : Settings) (s : List Float) (v n k room : ℕ) (h h′ : Sheet) {b b′ : Buffers} → Ready v room s b → Alike b b′
-    → (h .places .strokes ≡ 0) × (h .places .marks ≡ 0) × (h .walk .pen .number .0 ≡ 0) × (h .walk .source .0 ≡ 0) → 2 * (n - h .walk .leading) + 2 ≤ room → n ≤ 4096 → room ≤ 2 * v
-    → trail h′ b′ ≡ advances closed σ (routed v n k s) (trail h b) → Lasts room h′ b′
-lasts-after closed σ s v n k room h h′ {b} ready alike none few most small e =
+-- ---- after turns from the first places on there is room for the last t moves
+pub lasts-after : (closed : Bool) (σ : Settings) (s : List Float) (v n k t room : ℕ) (h h′ : Sheet) {b b′ : Buffers} → Ready v room s b → Alike b b′
+    → (h .places .strokes ≡ 0) × (h .places .marks ≡ 0) × (h .walk .pen .number .0 ≡ 0) × (h .walk .source .0 ≡ 0)
+    → movesASegment (σ .corners) * (n - h .walk .leading) + t ≤ room → (n ≤ 4096) × (t ≤ 3) → room ≤ 12288
+    → trail h′ b′ ≡ advances closed σ (routed v n k s) (trail h b) → Lasts t room h′ b′
+lasts-after closed σ s v n k t room h h′ {b} ready alike none few most small e =
     let l = length-routed v n k s in
-    let g = rw (← e) at (advances-gone closed σ (routed v n k s) (trail h b)) in
+    let g = rw (l, ← e) at (advances-gone closed σ (routed v n k s) (trail h b)) in
+    let m = product-most (movesASegment (σ .corners)) 3 n (moves-few (σ .corners)) in
     record {
-      sources = omega (arith, g .source, none .3);
-      outputs = omega (arith, g .number, none .2);
-      small = omega (arith, ready .most);
-      strokes = omega (arith, g .strokes, none .0);
-      marks = omega (arith, g .marks, none .1);
+      sources = omega (arith, g .source, none .3, most .0);
+      outputs = omega (arith, g .number, none .2, m, most .0, most .1);
+      small = small;
+      strokes = omega (arith, g .strokes, none .0, few);
+      marks = omega (arith, g .marks, none .1, few);
       vertices = omega (arith, ready .vertices, alike .vertices);
       flags = omega (arith, ready .flags, alike .flags);
       indexes = omega (arith, ready .indexes, alike .indexes);
@@ -176,18 +184,37 @@ lasts-after closed σ s v n k room h h′ {b} ready alike none few most small e 
     }
 
 -- of an open walk
-pub first-lasts : (σ : Settings) (s : List Float) (v k : ℕ) (a : PlineVertex) (h h′ : Sheet) {b b′ : Buffers} → Ready v (2 * (v - 1)) s b → Alike b b′
-    → (stood (h .walk) ≡ standingAt a 1) × Fit (h .walk) × (h .places ≡ noPlaces) → trail h′ b′ ≡ advances false σ (routed v (v - 1) k s) (trail h b) → Lasts (2 * (v - 1)) h′ b′
+pub first-lasts : (σ : Settings) (s : List Float) (v k room : ℕ) (pointed : Bool) (a : PlineVertex) (h h′ : Sheet) {b b′ : Buffers} → Drawable v (v - 1) room σ pointed s b → Alike b b′
+    → (stood (h .walk) ≡ standingAt a 1) × Fit (h .walk) × (h .places ≡ noPlaces) → trail h′ b′ ≡ advances false σ (routed v (v - 1) k s) (trail h b) → Lasts 2 room h′ b′
 unfolding standingAt
-first-lasts σ s v k a h h′ ready alike first e =
+first-lasts σ s v k room pointed a h h′ d alike first e =
     let leading : h .walk .leading ≡ 1 = ap (λ (x : Stood). x .leading) (first .0) in
-    lasts-after false σ s v (v - 1) k (2 * (v - 1)) h h′ ready alike (
+    let m = product-less (movesASegment (σ .corners)) (v - 1) (omega (arith, d .ready .two)) in
+    let few : movesASegment (σ .corners) * (v - 1 - h .walk .leading) + 2 ≤ room = rw leading (omega (arith, m, d .enough, two-moves (σ .corners))) in
+    lasts-after false σ s v (v - 1) k 2 room h h′ (d .ready) alike (
       ap (λ (x : Places). x .strokes) (first .2),
       ap (λ (x : Places). x .marks) (first .2),
       ap (λ (x : Stood). x .pen .number .0) (first .0),
       ap (λ (x : Stood). x .walker .source .0) (first .0),
     )
-    (omega (arith, ready .two)) (omega (arith, ready .most)) (omega arith) e
+    few (omega (arith, d .ready .most), omega arith) (d .small) e
+
+-- of a closed one: the last span, and the connectors of the join that led in
+pub closing-few : (σ : Settings) (i : ℕ) (j : JoinBoundary) → (isPointed (j .cause) ≡ true → arePointed (σ .corners) ≡ true) → 1 + length (connectorMoves i j) ≤ movesASegment (σ .corners)
+unfolding connectorMoves
+closing-few σ i j tipped =
+    either-tip i j (λ (ms : List Move). 1 + length (ms ++ connectorMove i j ∷ []) ≤ movesASegment (σ .corners)) (λ e. omega (arith, two-moves (σ .corners)))
+    (λ e. omega (arith, three-moves (σ .corners) (tipped e)))
+
+pub around-lasts : (σ : Settings) (s : List Float) (v k room : ℕ) (pointed : Bool) (h h′ : Sheet) {b b′ : Buffers} → Drawable v v room σ pointed s b → Alike b b′ → Entered σ h
+    → trail h′ b′ ≡ advances true σ (routed v (v - 1) k s) (trail h b) → Lasts (length (closingMoves (h′ .walk) (h .walk .entry))) room h′ b′
+around-lasts σ s v k room pointed h h′ d alike en e =
+    let m = product-less (movesASegment (σ .corners)) v (omega (arith, d .ready .two)) in
+    let c = closing-few σ (h′ .walk .source .0) (h .walk .entry) (en .tipped) in
+    let z : v - 1 - 0 ≡ v - 1 = omega arith in
+    let few : movesASegment (σ .corners) * (v - 1 - h .walk .leading) + length (closingMoves (h′ .walk) (h .walk .entry)) ≤ room = rw (en .leading, z) (omega (arith, m, d .enough, c)) in
+    lasts-after true σ s v (v - 1) k _ room h h′ (d .ready) alike (en .strokes, en .marks, en .number, en .source) few
+    (omega (arith, d .ready .most), omega (arith, c, moves-few (σ .corners))) (d .small) e
 
 pub ready-alike : {v room : ℕ} {s : List Float} {b b′ : Buffers} → Ready v room s b → Alike b b′ → Ready v room s b′
 ready-alike r a = record {
@@ -200,19 +227,23 @@ ready-alike r a = record {
   origins = omega (arith, r .origins, a .origins);
 }
 
-module _ (σ : Settings) (s : List Float) (v : ℕ) (old : Buffers) (sheet : Sheet) {b : Buffers} where
+pub drawable-alike : {v n room : ℕ} {σ : Settings} {pointed : Bool} {s : List Float} {b b′ : Buffers} → Drawable v n room σ pointed s b → Alike b b′ → Drawable v n room σ pointed s b′
+drawable-alike d a = record { ready = ready-alike (d .ready) a; told = d .told; enough = d .enough; small = d .small }
+
+module _ (σ : Settings) (s : List Float) (v room : ℕ) (pointed : Bool) (old : Buffers) (sheet : Sheet) {b : Buffers} where
   -- ---- closed
-  module _ (ready : Ready v (2 * v) s old) (h : trail sheet b ≡ walked true σ (routed v 2 0 s) (vertexOf s (v - 1)) 2 old) where
+  module _ (d : Drawable v v room σ pointed s old) (h : trail sheet b ≡ walked true σ (routed v 2 0 s) (vertexOf s (v - 1)) 2 old) where
     abbrev first : Stood
     first = ledIn σ (vertexOf s 0) (vertexOf s 1) (rest s)
 
     closed-first : trail sheet b ≡ record { stood = first; laid = laid noPlaces old }
     unfolding stores
-    closed-first = h ∙ rw (lead-route s v (ready .long) (ready .two), ← last-is s v (ready .long) (ready .two), advances-drawn, closed-led, closed-undrawn)
+    closed-first = h ∙ rw (lead-route s v (d .ready .long) (d .ready .two), ← last-is s v (d .ready .long) (d .ready .two), advances-drawn, closed-led, closed-undrawn)
 
-    pub closed-entered : Fit (sheet .walk) → Entered sheet
-    unfolding ledIn
+    pub closed-entered : Fit (sheet .walk) → Entered σ sheet
+    unfolding ledIn closingJoin joinAt
     closed-entered f = record {
+      tipped = λ (t : isPointed (sheet .walk .entry .cause) ≡ true). tip-mode _ _ _ σ (ap (λ (r : Trail). isPointed (r .stood .walker .entry .cause)) (sym closed-first) ∙ t);
       fit = f;
       leading = ap (λ (r : Trail). r .stood .leading) closed-first;
       source = ap (λ (r : Trail). r .stood .walker .source .0) closed-first;
@@ -221,8 +252,8 @@ module _ (σ : Settings) (s : List Float) (v : ℕ) (old : Buffers) (sheet : She
       marks = ap (λ (r : Trail). r .laid .places .marks) closed-first;
     }
 
-    closed-few : length (moves true σ s) ≤ 2 * v
-    closed-few = omega (arith, few true σ s, closed-most σ (vertexOf s 0) (vertexOf s 1) (rest s), others s v (ready .long) (ready .two))
+    closed-few : length (moves true σ s) ≤ room
+    closed-few = omega (arith, few true σ s, rw (others s v (d .ready .long) (d .ready .two)) at (closed-most σ (vertexOf s 0) (vertexOf s 1) (rest s)), d .enough)
 
     -- once around, with the closing moves
     abbrev around : List PlineVertex
@@ -231,84 +262,96 @@ module _ (σ : Settings) (s : List Float) (v : ℕ) (old : Buffers) (sheet : She
     closed-laid :
         let k = closingJoin σ (vertexOf s 0) (vertexOf s 1) (rest s) in
         let w = goes true σ around first in
-        stores (turnStrokes 0 (w .pen) (spanTo (w .walker) (k .«current_end») (k .«current_param»)) (connectorMove (w .walker .source .0) k) (σ .eps))
+        stores (strokesBy 0 (w .pen) (spanTo (w .walker) (k .«current_end») (k .«current_param») ∷ connectorMoves (w .walker .source .0) k) (σ .eps))
         (stores (drawnOn true σ around first) (laid noPlaces old)) ≡ drawnOver (start true σ s) (moves true σ s) old
     closed-laid =
         let n = closed-few in
         sym (stores-append (drawnOn true σ around first) _ (laid noPlaces old)) ∙ rw (closed-drawn σ (vertexOf s 0) (vertexOf s 1) (rest s))
-        (stores-drawn (start true σ s) (moves true σ s) old (omega (arith, ready .vertices)) (omega (arith, ready .flags)) (omega (arith, ready .indexes)) (omega (arith, ready .origins)))
+        (stores-drawn (start true σ s) (moves true σ s) old (omega (arith, d .ready .vertices)) (omega (arith, d .ready .flags)) (omega (arith, d .ready .indexes)) (omega (arith, d .ready .origins)))
 
     closed-drawing : drawnClosed (start true σ s) (moves true σ s) ≡ drawingOf true σ (verticesOf s)
     unfolding drawingOf loneCollapsed walkDrawing when_give_else_
-    closed-drawing = ap (drawingOf true σ) (sym (first-two s v (ready .long) (ready .two)))
+    closed-drawing = ap (drawingOf true σ) (sym (first-two s v (d .ready .long) (d .ready .two)))
 
     closed-entry : sheet .walk .entry ≡ closingJoin σ (vertexOf s 0) (vertexOf s 1) (rest s)
     unfolding ledIn
     closed-entry = ap (λ (r : Trail). r .stood .walker .entry) closed-first
 
-    closed-closes : closes (2 * v) (closingJoin σ (vertexOf s 0) (vertexOf s 1) (rest s)) (σ .eps)
-        (record { stood = goes true σ around first; laid = stores (drawnOn true σ around first) (laid noPlaces old) }) ≡ builtOf (2 * v) (drawingOf true σ (verticesOf s)) old
+    closed-closes : closes room (closingJoin σ (vertexOf s 0) (vertexOf s 1) (rest s)) (σ .eps)
+        (record { stood = goes true σ around first; laid = stores (drawnOn true σ around first) (laid noPlaces old) }) ≡ builtOf room (drawingOf true σ (verticesOf s)) old
     unfolding closes
     closed-closes =
-        ap (λ (l : Laid). finishes (2 * v) (record { vertices = l .places .strokes; indexes = l .places .marks; closed = not (eqb (l .places .strokes) 0) }) l) closed-laid
-        ∙ closed-finish (2 * v) (start true σ s) (moves true σ s) old (never-one σ (vertexOf s 0) (vertexOf s 1) (rest s)) closed-few
+        ap (λ (l : Laid). finishes room (record { vertices = l .places .strokes; indexes = l .places .marks; closed = not (eqb (l .places .strokes) 0) }) l) closed-laid
+        ∙ closed-finish room (start true σ s) (moves true σ s) old (never-one σ (vertexOf s 0) (vertexOf s 1) (rest s)) closed-few
         ∙ rw closed-drawing
 
-    pub closed-built : closes (2 * v) (sheet .walk .entry) (σ .eps) (advances true σ (routed v (v - 1) (nextOf v 1) s) (trail sheet b)) ≡ builtOf (2 * v) (drawingOf true σ (verticesOf s)) old
+    pub closed-built : closes room (sheet .walk .entry) (σ .eps) (advances true σ (routed v (v - 1) (nextOf v 1) s) (trail sheet b)) ≡ builtOf room (drawingOf true σ (verticesOf s)) old
     closed-built =
         let k = closingJoin σ (vertexOf s 0) (vertexOf s 1) (rest s) in
         let led : Trail = record { stood = first; laid = laid noPlaces old } in
-        ap (λ (j : JoinBoundary). closes (2 * v) j (σ .eps) (advances true σ (routed v (v - 1) (nextOf v 1) s) (trail sheet b))) closed-entry
-        ∙ ap (λ (r : Trail). closes (2 * v) k (σ .eps) (advances true σ (routed v (v - 1) (nextOf v 1) s) r)) closed-first
-        ∙ ap (λ (vs : List PlineVertex). closes (2 * v) k (σ .eps) (advances true σ vs led)) (around-route s v (ready .long) (ready .two))
-        ∙ ap (closes (2 * v) k (σ .eps)) (advances-drawn true σ around led)
+        ap (λ (j : JoinBoundary). closes room j (σ .eps) (advances true σ (routed v (v - 1) (nextOf v 1) s) (trail sheet b))) closed-entry
+        ∙ ap (λ (r : Trail). closes room k (σ .eps) (advances true σ (routed v (v - 1) (nextOf v 1) s) r)) closed-first
+        ∙ ap (λ (vs : List PlineVertex). closes room k (σ .eps) (advances true σ vs led)) (around-route s v (d .ready .long) (d .ready .two))
+        ∙ ap (closes room k (σ .eps)) (advances-drawn true σ around led)
         ∙ closed-closes
 
   -- ---- open
-  module _ (ready : Ready v (2 * (v - 1)) s old) (h : trail sheet b ≡ walked false σ (routed v (v - 1) 1 s) (vertexOf s 0) 1 old) where
+  module _ (d : Drawable v (v - 1) room σ pointed s old) (h : trail sheet b ≡ walked false σ (routed v (v - 1) 1 s) (vertexOf s 0) 1 old) where
     open-gone : trail sheet b ≡ walked false σ (vertexOf s 1 ∷ rest s) (vertexOf s 0) 1 old
-    open-gone = h ∙ rw (open-route s v (ready .long) (ready .two))
+    open-gone = h ∙ rw (open-route s v (d .ready .long) (d .ready .two))
 
-    open-few : length (moves false σ s) + 1 ≤ 2 * (v - 1)
-    open-few = omega (arith, few false σ s, open-length σ (vertexOf s 0) (vertexOf s 1) (rest s), others s v (ready .long) (ready .two))
+    open-few : length (moves false σ s) + 1 ≤ room
+    open-few =
+        let o = others s v (d .ready .long) (d .ready .two) in
+        let e : length (rest s) ≡ v - 1 - 1 = omega (arith, o) in
+        let m = product-less (movesASegment (σ .corners)) (v - 1) (omega (arith, d .ready .two)) in
+        omega (arith, few false σ s, rw e at (open-most σ (vertexOf s 0) (vertexOf s 1) (rest s)), m, d .enough, two-moves (σ .corners))
 
     -- the walk with its last span, which is not a lone collapsed arc
     open-walked : let w = goes false σ (vertexOf s 1 ∷ rest s) (standingAt (vertexOf s 0) 1) in let last = stepOf (w .pen) (lastSpan (w .walker)) (σ .eps) in
-        finishesOpen (2 * (v - 1)) (last .pen) (stores (drawnBy 0 last) (stores (drawnOn false σ (vertexOf s 1 ∷ rest s) (standingAt (vertexOf s 0) 1)) (laid noPlaces old)))
-        ≡ builtOf (2 * (v - 1)) (drawnOpen (start false σ s) (moves false σ s)) old
+        finishesOpen room (last .pen) (stores (drawnBy 0 last) (stores (drawnOn false σ (vertexOf s 1 ∷ rest s) (standingAt (vertexOf s 0) 1)) (laid noPlaces old)))
+        ≡ builtOf room (drawnOpen (start false σ s) (moves false σ s)) old
     open-walked =
         let n = open-few in
-        let d = rw open-led at (open-drawn σ (vertexOf s 0) (vertexOf s 1) (rest s)) in
-        let all = stores-drawn (start false σ s) (moves false σ s) old (omega (arith, ready .vertices)) (omega (arith, ready .flags)) (omega (arith, ready .indexes)) (omega (arith, ready .origins)) in
-        rw (← stores-append (drawnOn false σ (vertexOf s 1 ∷ rest s) (standingAt (vertexOf s 0) 1)), d .0, d .1, all) (open-finish (2 * (v - 1)) _ _ old n (ready .vertices))
+        let w = rw open-led at (open-drawn σ (vertexOf s 0) (vertexOf s 1) (rest s)) in
+        let all = stores-drawn (start false σ s) (moves false σ s) old (omega (arith, d .ready .vertices)) (omega (arith, d .ready .flags)) (omega (arith, d .ready .indexes)) (omega (arith, d .ready .origins)) in
+        rw (← stores-append (drawnOn false σ (vertexOf s 1 ∷ rest s) (standingAt (vertexOf s 0) 1)), w .0, w .1, all) (open-finish room _ _ old n (d .ready .vertices))
 
-    open-ends : lasts (2 * (v - 1)) (eqb (length (rest s) + 2) 2) (σ .eps) (walked false σ (vertexOf s 1 ∷ rest s) (vertexOf s 0) 1 old)
-        ≡ builtOf (2 * (v - 1)) (drawingOf false σ (vertexOf s 0 ∷ vertexOf s 1 ∷ rest s)) old
+    open-ends : lasts room (eqb (length (rest s) + 2) 2) (σ .eps) (walked false σ (vertexOf s 1 ∷ rest s) (vertexOf s 0) 1 old)
+        ≡ builtOf room (drawingOf false σ (vertexOf s 0 ∷ vertexOf s 1 ∷ rest s)) old
     unfolding lasts drawingOf walkDrawing when_give_else_
     open-ends = by (loneCollapsed false σ (vertexOf s 0 ∷ vertexOf s 1 ∷ rest s)) refl
       where
         by : (t : Bool) → loneCollapsed false σ (vertexOf s 0 ∷ vertexOf s 1 ∷ rest s) ≡ t
-            → lasts (2 * (v - 1)) (eqb (length (rest s) + 2) 2) (σ .eps) (walked false σ (vertexOf s 1 ∷ rest s) (vertexOf s 0) 1 old)
-            ≡ builtOf (2 * (v - 1)) (drawingOf false σ (vertexOf s 0 ∷ vertexOf s 1 ∷ rest s)) old
-        by true l = rw (advances-drawn, lone-is, l, lone-none σ (vertexOf s 0) (vertexOf s 1) (rest s) (laid noPlaces old) l) (built-nothing (2 * (v - 1)) old)
+            → lasts room (eqb (length (rest s) + 2) 2) (σ .eps) (walked false σ (vertexOf s 1 ∷ rest s) (vertexOf s 0) 1 old)
+            ≡ builtOf room (drawingOf false σ (vertexOf s 0 ∷ vertexOf s 1 ∷ rest s)) old
+        by true l = rw (advances-drawn, lone-is, l, lone-none σ (vertexOf s 0) (vertexOf s 1) (rest s) (laid noPlaces old) l) (built-nothing room old)
         by false l = rw (advances-drawn, lone-is, l) open-walked
 
-    pub open-built : lasts (2 * (v - 1)) (eqb v 2) (σ .eps) (trail sheet b) ≡ builtOf (2 * (v - 1)) (drawingOf false σ (verticesOf s)) old
+    pub open-built : lasts room (eqb v 2) (σ .eps) (trail sheet b) ≡ builtOf room (drawingOf false σ (verticesOf s)) old
     open-built =
-        ap (lasts (2 * (v - 1)) (eqb v 2) (σ .eps)) open-gone
-        ∙ ap (λ n. lasts (2 * (v - 1)) (eqb n 2) (σ .eps) (walked false σ (vertexOf s 1 ∷ rest s) (vertexOf s 0) 1 old)) (sym (others s v (ready .long) (ready .two)))
+        ap (lasts room (eqb v 2) (σ .eps)) open-gone
+        ∙ ap (λ n. lasts room (eqb n 2) (σ .eps) (walked false σ (vertexOf s 1 ∷ rest s) (vertexOf s 0) 1 old)) (sym (others s v (d .ready .long) (d .ready .two)))
         ∙ open-ends
-        ∙ ap (λ (vs : List PlineVertex). builtOf (2 * (v - 1)) (drawingOf false σ vs) old) (sym (first-two s v (ready .long) (ready .two)))
+        ∙ ap (λ (vs : List PlineVertex). builtOf room (drawingOf false σ vs) old) (sym (first-two s v (d .ready .long) (d .ready .two)))
 
 -- ---- the last moves as the code stores them: the last span of an open walk
 pub last-stored : (st : Stepped) (l : Laid) → when st .kept give stored (st .stroke) l else l ≡ stores (drawnBy 0 st) l
 unfolding drawnBy _and_
 last-stored st l = sym (stores-last (st .kept) (st .stroke) l)
 
+pub lasts-room : {t room : ℕ} {h : Sheet} {b : Buffers} → Lasts t room h b → Rooms t (laid (h .places) b)
+lasts-room w = record {
+  vertices = omega (arith, w .strokes, w .vertices);
+  flags = omega (arith, w .strokes, w .flags);
+  indexes = omega (arith, w .marks, w .indexes);
+  origins = omega (arith, w .strokes, w .origins);
+}
+
 -- there is room for them, and for k vertices in all
-pub last-within : (k room : ℕ) (h : Sheet) (p : Places) (ss : List Stroke) {b b′ : Buffers} → Lasts room h b → Alike b b′ → laid p b′ ≡ stores ss (laid (h .places) b)
-    → length ss ≤ 2 → k + length ss ≤ p .strokes + 2 → Within room k (p .strokes) (p .marks) b′
-last-within k room h p ss {b} w alike e n m =
+pub last-within : (k t room : ℕ) (h : Sheet) (p : Places) (ss : List Stroke) {b b′ : Buffers} → Lasts t room h b → Alike b b′ → laid p b′ ≡ stores ss (laid (h .places) b)
+    → length ss ≤ t → k + length ss ≤ p .strokes + t → Within room k (p .strokes) (p .marks) b′
+last-within k t room h p ss {b} w alike e n m =
     let c = stores-counted ss (laid (h .places) b) in
     let x = ap (λ (l : Laid). l .places .strokes) e in
     let y = ap (λ (l : Laid). l .places .marks) e in
@@ -323,32 +366,14 @@ last-within k room h p ss {b} w alike e n m =
       origins = omega (arith, w .origins, alike .origins);
     }
 
--- the closing moves as the code stores them: `first` and `second` leave p and then q
-module _ (room : ℕ) (ε : Float) (h : Sheet) (k : JoinBoundary) (first second : Stepped) (p q : Places) {span connector : Move} {b b₁ b₂ : Buffers} (w : Lasts room h b) (alike : Alike b b₂)
-    (e : span ≡ spanTo (stands (h .walk)) (k .«current_end») (k .«current_param»)) (one : first ≡ stepOf (h .walk .pen) span ε)
-    (half : laid p b₁ ≡ drawn (first .kept) (first .stroke) (laid (h .places) b))
-    (f : connector ≡ connectorMove (h .walk .source .0) k) (two : second ≡ stepOf (first .pen) connector ε)
-    (all : laid q b₂ ≡ drawn (second .kept) (second .stroke) (laid p b₁)) where
-  abbrev span-is : Move
-  span-is = spanTo (stands (h .walk)) (k .«current_end») (k .«current_param»)
-
-  abbrev connector-is : Move
-  connector-is = connectorMove (h .walk .source .0) k
-
-  closing-stored : laid q b₂ ≡ stores (turnStrokes 0 (h .walk .pen) span-is connector-is ε) (laid (h .places) b)
-  unfolding _and_
-  closing-stored =
-      let x = one ∙ ap (λ (m : Move). stepOf (h .walk .pen) m ε) e in
-      let y = two ∙ ap (λ (st : Stepped). stepOf (st .pen) connector ε) x ∙ ap (λ (m : Move). stepOf (stepOf (h .walk .pen) span-is ε .pen) m ε) f in
-      two-stored 0 (laid (h .places) b) x refl half y refl all
-
-  pub closing-within : Within room (q .strokes) (q .strokes) (q .marks) b₂
+-- the closing moves as the code stores them: they leave q
+module _ (room : ℕ) (ε : Float) (h : Sheet) (k : JoinBoundary) (q : Places) {b b′ : Buffers} (w : Lasts (length (closingMoves (h .walk) k)) room h b) (alike : Alike b b′)
+    (all : laid q b′ ≡ stores (strokesBy 0 (h .walk .pen) (closingMoves (h .walk) k) ε) (laid (h .places) b)) where
+  pub closing-within : Within room (q .strokes) (q .strokes) (q .marks) b′
   closing-within =
-      let x = stepOf (h .walk .pen) span-is ε in
-      let y = stepOf (x .pen) connector-is ε in
-      let few : length (drawnBy 0 x ++ drawnBy 0 y) ≤ 2 = omega (arith, drawn-few 0 x, drawn-few 0 y, length-append (drawnBy 0 x) (drawnBy 0 y)) in
-      last-within (q .strokes) room h q (drawnBy 0 x ++ drawnBy 0 y) w alike closing-stored few (omega arith)
+      let few = strokes-few 0 (h .walk .pen) (closingMoves (h .walk) k) ε in
+      last-within (q .strokes) _ room h q (strokesBy 0 (h .walk .pen) (closingMoves (h .walk) k) ε) w alike all few (omega (arith, few))
 
-  pub closing-done : finishes room (record { vertices = q .strokes; indexes = q .marks; closed = not (eqb (q .strokes) 0) }) (laid q b₂) ≡ closes room k ε (trail h b)
+  pub closing-done : finishes room (record { vertices = q .strokes; indexes = q .marks; closed = not (eqb (q .strokes) 0) }) (laid q b′) ≡ closes room k ε (trail h b)
   unfolding closes
-  closing-done = ap (λ (l : Laid). finishes room (record { vertices = l .places .strokes; indexes = l .places .marks; closed = not (eqb (l .places .strokes) 0) }) l) closing-stored
+  closing-done = ap (λ (l : Laid). finishes room (record { vertices = l .places .strokes; indexes = l .places .marks; closed = not (eqb (l .places .strokes) 0) }) l) all

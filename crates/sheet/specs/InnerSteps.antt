@@ -14,22 +14,26 @@ use Rattle.floats.specs.Choice.{when_give_else_, _and_}
 use Rattle.floats.specs.Size.{finite}
 use Rattle.segments.specs.declared.Settings.{Settings}
 use Rattle.segments.specs.declared.PlineVertex.{PlineVertex}
+use Rattle.segments.specs.Modes.{arePointed}
 use Rattle.segments.specs.Vertex.{vertexAt}
 use Rattle.segments.specs.Segment.{isCollapsed}
 use Rattle.angles.specs.Angle.{tanEighth, bulgeOf}
 use Rattle.source.specs.InnerSteps.{vertexOf, nextOf}
 use Rattle.joins.specs.declared.JoinBoundary.{JoinBoundary}
+use Rattle.joins.specs.Corner.{isPointed}
+use Rattle.moves.specs.declared.Move.{Move}
 use Rattle.moves.specs.declared.Pen.{Pen}
 use Rattle.moves.specs.declared.Stroke.{Stroke}
 use Rattle.moves.specs.declared.Origin.{Origin}
 use Rattle.moves.specs.declared.RawOffsetResult.{RawOffsetResult}
 use Rattle.moves.specs.Reason.{isInvalid}
 use Rattle.moves.specs.Drawing.{Drawing, bit, nothing, finiteVertex, allFinite, emptyResult, resultOf}
-use Rattle.moves.specs.Made.{segmentOf, connectorMove}
+use Rattle.moves.specs.Made.{segmentOf, connectorMoves}
 use Rattle.moves.specs.InnerSteps.{stepOf, sure}
 use Rattle.walk.specs.declared.Walk.{Walk}
 use Rattle.walk.specs.declared.Turned.{Turned}
-use Rattle.walk.specs.InnerSteps.{Stood, stood, Fit, spanTo, lastSpan, drawnBy, turnStrokes, advance}
+use Rattle.walk.specs.Walk.{movesASegment}
+use Rattle.walk.specs.InnerSteps.{Standing, stands, Stood, stood, Fit, spanTo, lastSpan, drawnBy, strokesBy, advance}
 use Rattle.sheet.specs.declared.Places.{Places}
 use Rattle.sheet.specs.declared.Later.{Later}
 use Rattle.sheet.specs.declared.Sheet.{Sheet}
@@ -158,18 +162,18 @@ pub record Alike (b b′ : Buffers) : Type 0 where
   pub indexes : length (b′ .indexes) ≡ length (b .indexes)
   pub origins : length (b′ .origins) ≡ length (b .origins)
 
--- what t turns need: a walk that can be joined on, numbers that fit, and room for two strokes a turn, but for those that lead in
-pub record Turns (t : ℕ) (w : Walk) (p : Places) (b : Buffers) : Type 0 where
+-- what t turns need: a walk that can be joined on, numbers that fit, and room for m strokes a turn, but for those that lead in
+pub record Turns (m t : ℕ) (w : Walk) (p : Places) (b : Buffers) : Type 0 where
   pub fit : Fit w
   pub sources : w .source .0 + t < 0x8000_0000
-  pub outputs : w .pen .number .0 + 2 * t < 0x1_0000_0000
-  pub rooms : Rooms (2 * (t - w .leading)) (laid p b)
+  pub outputs : w .pen .number .0 + m * t + 1 < 0x1_0000_0000
+  pub rooms : Rooms (m * (t - w .leading)) (laid p b)
 
 -- and over a source of v vertices, from place k on
-pub record Starts (v k t : ℕ) (h : Sheet) (s : List Float) (b : Buffers) : Type 0 where
+pub record Starts (m v k t : ℕ) (h : Sheet) (s : List Float) (b : Buffers) : Type 0 where
   pub long : 3 * v ≡ length s
   pub below : k < v
-  pub turns : Turns t (h .walk) (h .places) b
+  pub turns : Turns m t (h .walk) (h .places) b
 
 -- a source of v vertices, and `room` places in each buffer
 pub record Ready (v room : ℕ) (s : List Float) (b : Buffers) : Type 0 where
@@ -180,6 +184,13 @@ pub record Ready (v room : ℕ) (s : List Float) (b : Buffers) : Type 0 where
   pub flags : room ≤ length (b .flags)
   pub indexes : room ≤ length (b .indexes)
   pub origins : room ≤ length (b .origins)
+
+-- and so many for the moves of its n segments, in the mode that is told
+pub record Drawable (v n room : ℕ) (σ : Settings) (pointed : Bool) (s : List Float) (b : Buffers) : Type 0 where
+  pub ready : Ready v room s b
+  pub told : pointed ≡ arePointed (σ .corners)
+  pub enough : movesASegment (σ .corners) * n ≤ room
+  pub small : room ≤ 12288
 
 -- ---- the end of a walk
 
@@ -243,27 +254,33 @@ lasts room alone ε r =
     when alone and isCollapsed (r .stood .walker .current) give finished (Done emptyResult) (wiped room 0 0 0 (r .laid .buffers)) else
     finishesOpen room (last .pen) (stores (drawnBy 0 last) (r .laid))
 
--- the closing moves of a closed walk, by its closing join: the last span up to that join, and its connector
+-- the closing moves of a closed walk, by its closing join: the last span up to that join, and its connectors
+abbrev pub closingBy : Standing → JoinBoundary → List Move
+closingBy w k = spanTo w (k .«current_end») (k .«current_param») ∷ connectorMoves (w .source .0) k
+
+abbrev pub closingMoves : Walk → JoinBoundary → List Move
+closingMoves w k = closingBy (stands w) k
+
 unfoldable pub closes : ℕ → JoinBoundary → Float → Trail → Finished
 closes room k ε r =
-    let w = r .stood .walker in
-    let l = stores (turnStrokes 0 (r .stood .pen) (spanTo w (k .«current_end») (k .«current_param»)) (connectorMove (w .source .0) k) ε) (r .laid) in
+    let l = stores (strokesBy 0 (r .stood .pen) (closingBy (r .stood .walker) k) ε) (r .laid) in
     finishes room (record { vertices = l .places .strokes; indexes = l .places .marks; closed = not (eqb (l .places .strokes) 0) }) l
 
--- what the last moves need: room for two
-pub record Lasts (room : ℕ) (h : Sheet) (b : Buffers) : Type 0 where
+-- what the last t moves need
+pub record Lasts (t room : ℕ) (h : Sheet) (b : Buffers) : Type 0 where
   pub sources : h .walk .source .0 < 0x8000_0000
-  pub outputs : h .walk .pen .number .0 + 2 < 0x1_0000_0000
+  pub outputs : h .walk .pen .number .0 + t < 0x1_0000_0000
   pub small : room ≤ 12288
-  pub strokes : h .places .strokes + 2 ≤ room
-  pub marks : h .places .marks + 2 ≤ room
+  pub strokes : h .places .strokes + t ≤ room
+  pub marks : h .places .marks + t ≤ room
   pub vertices : 3 * room ≤ length (b .vertices)
   pub flags : room ≤ length (b .flags)
   pub indexes : room ≤ length (b .indexes)
   pub origins : room ≤ length (b .origins)
 
--- a walk that is led in and has drawn nothing
-pub record Entered (h : Sheet) : Type 0 where
+-- a walk that is led in and has drawn nothing; the join that led it there has a tip in the pointed mode alone
+pub record Entered (σ : Settings) (h : Sheet) : Type 0 where
+  pub tipped : isPointed (h .walk .entry .cause) ≡ true → arePointed (σ .corners) ≡ true
   pub fit : Fit (h .walk)
   pub leading : h .walk .leading ≡ 0
   pub source : h .walk .source .0 ≡ 0

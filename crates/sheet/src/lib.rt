@@ -5,22 +5,25 @@
 ghost use mathlib.Core.Path.{_≡_};
 ghost use mathlib.Core.Bool.{true, false};
 ghost use Prim.Native.Nat.{_+_, _*_, _-_, _≤_, _<_};
+ghost use lib.Dec.{eqb};
 ghost use lib.ListN.{length, set};
 ghost use Rattle.floats.specs.Binary64.{zero};
 ghost use Rattle.floats.specs.Choice.{when_give_else_, _and_};
 ghost use Rattle.angles.specs.Angle.{sweepOf, bulgeOf};
 ghost use Rattle.segments.specs.Vertex.{bulgeIsZero};
+ghost use Rattle.segments.specs.Modes.{arePointed};
 ghost use Rattle.segments.specs.InnerSteps.{chordOf};
 ghost use Rattle.source.specs.Source.{verticesOf, segmentsOf};
 ghost use Rattle.source.specs.InnerSteps.{vertexOf, nextOf};
 ghost use Rattle.sweeps.specs.InnerSteps.{Memo};
+ghost use Rattle.joins.specs.Corner.{isPointed};
 ghost use Rattle.moves.specs.Origins.{originsIn};
 ghost use Rattle.moves.specs.Drawing.{bit, resultOf};
-ghost use Rattle.moves.specs.InnerSteps.{sure};
-ghost use Rattle.walk.specs.Walk.{drawingOf, spansFrom, copied};
-ghost use Rattle.walk.specs.InnerSteps.{stood, standingAt, Fit, turnStrokes, penTurned};
+ghost use Rattle.moves.specs.InnerSteps.{stepOf, tipFirst, sure};
+ghost use Rattle.walk.specs.Walk.{movesASegment, drawingOf, spansFrom, copied};
+ghost use Rattle.walk.specs.InnerSteps.{stood, standingAt, Fit, madeBy, drawnBy, strokesBy, penBy};
 ghost use Rattle.sheet.specs.Buffers.{buffers, noOrigin, shown};
-ghost use Rattle.sheet.specs.InnerSteps.{noPlaces, reached, laid, putAt, stored, stores, bulgedAt, Begun, reachedLater, laterOf, trail, advances, routed, Coded, Rooms, Starts, Ready, cleared, wiped, over, Within, finished, finishes, finishesOpen, Lasts, lasts, closes, Entered, builtOf};
+ghost use Rattle.sheet.specs.InnerSteps.{noPlaces, reached, laid, putAt, stored, stores, bulgedAt, Begun, reachedLater, laterOf, trail, advances, routed, Coded, Rooms, Starts, Ready, Drawable, cleared, wiped, over, Within, finished, finishes, finishesOpen, Lasts, lasts, closingMoves, closes, Entered, builtOf};
 use joins::JoinBoundary;
 use moves::Move;
 use moves::Origin;
@@ -182,6 +185,84 @@ impl Later {
     }
 }
 
+// What a move leaves: whether it was drawn, the pen, and the places after it.
+pub struct Drawn {
+    pub drawn: bool,
+    pub pen: Pen,
+    pub places: Places,
+}
+
+// A move, stored right after its step: a processor guesses which way it goes. Nothing is drawn while turns
+// lead in.
+fn store_move(
+    vertices: &mut [f64],
+    flags: &mut [u8],
+    indexes: &mut [u32],
+    origins: &mut [u32],
+    places: Places,
+    leading: u32,
+    pen: Pen,
+    m: Move,
+    eps: f64,
+) -> Drawn
+    requires { ⌜ (leading ≡ 0 → Rooms 1 (laid places (buffers (now vertices) (now flags) (now indexes) (originsIn (now origins))))) × (pen .number .0 + 1 < 0x1_0000_0000) × Coded (m .origin) ⌝ }
+    ensures { λ r. ⌜ laid (r .places) (buffers (now (vertices .exit)) (now (flags .exit)) (now (indexes .exit)) (originsIn (now (origins .exit))))
+        ≡ stores (drawnBy leading (stepOf pen m eps)) (laid places (buffers (now (vertices .entry)) (now (flags .entry)) (now (indexes .entry)) (originsIn (now (origins .entry))))) ⌝ }
+    ensures { λ r. ⌜ (r .pen ≡ stepOf pen m eps .pen) × (r .drawn ≡ (eqb leading 0 and stepOf pen m eps .kept)) ⌝ }
+{
+    let stepped = pen.step(m, eps);
+    let drawn = moves::both(leading == 0, stepped.kept);
+    let places = store(
+        vertices,
+        flags,
+        indexes,
+        origins,
+        places,
+        drawn,
+        stepped.stroke,
+    );
+    let pen = stepped.pen;
+    Drawn { drawn, pen, places }
+}
+
+// The first of two connectors, if the join has a tip: `connector` is the other. The mode is told beside:
+// in the round one there is none.
+fn store_tip(
+    vertices: &mut [f64],
+    flags: &mut [u8],
+    indexes: &mut [u32],
+    origins: &mut [u32],
+    before: Drawn,
+    leading: u32,
+    connector: Move,
+    join: JoinBoundary,
+    pointed: bool,
+    eps: f64,
+) -> Drawn
+    requires { ⌜ (leading ≡ 0 → Rooms (length (tipFirst join connector)) (laid (before .places) (buffers (now vertices) (now flags) (now indexes) (originsIn (now origins))))) × (before .pen .number .0 + 1 < 0x1_0000_0000) ⌝ }
+    requires { ⌜ Coded (connector .origin) × (isPointed (join .cause) ≡ true → pointed ≡ true) ⌝ }
+    ensures { λ r. ⌜ laid (r .places) (buffers (now (vertices .exit)) (now (flags .exit)) (now (indexes .exit)) (originsIn (now (origins .exit))))
+        ≡ stores (strokesBy leading (before .pen) (tipFirst join connector) eps) (laid (before .places) (buffers (now (vertices .entry)) (now (flags .entry)) (now (indexes .entry)) (originsIn (now (origins .entry))))) ⌝ }
+    ensures { λ r. ⌜ r .pen ≡ penBy (before .pen) (tipFirst join connector) eps ⌝ }
+{
+    let cause = join.cause;
+    if !moves::both(pointed, cause.is_pointed()) {
+        return before;
+    }
+    let tip = connector.to_tip(join.tip);
+    store_move(
+        vertices,
+        flags,
+        indexes,
+        origins,
+        before.places,
+        leading,
+        before.pen,
+        tip,
+        eps,
+    )
+}
+
 // What a turn leaves: the pen and the places after its strokes, and the bulge that is still to be
 // written.
 pub struct Left {
@@ -190,8 +271,7 @@ pub struct Left {
     pub later: Later,
 }
 
-// A turn's span, straight as yet, and its connector. Each is stored right after its step: a processor
-// guesses which way it goes.
+// A turn's span, straight as yet, and its connectors.
 fn store_turn(
     vertices: &mut [f64],
     flags: &mut [u8],
@@ -199,46 +279,60 @@ fn store_turn(
     origins: &mut [u32],
     places: Places,
     turned: Turned,
+    pointed: bool,
     eps: f64,
 ) -> Left
-    requires { ⌜ (turned .walk .leading ≡ 0 → Rooms 2 (laid places (buffers (now vertices) (now flags) (now indexes) (originsIn (now origins))))) × (turned .walk .pen .number .0 + 2 < 0x1_0000_0000) ⌝ }
-    requires { ⌜ Coded (turned .span .origin) × Coded (turned .connector .origin) ⌝ }
+    requires { ⌜ (turned .walk .leading ≡ 0 → Rooms (2 + length (tipFirst (turned .join) (turned .connector))) (laid places (buffers (now vertices) (now flags) (now indexes) (originsIn (now origins))))) × (turned .walk .pen .number .0 + 3 < 0x1_0000_0000) ⌝ }
+    requires { ⌜ Coded (turned .span .origin) × Coded (turned .connector .origin) × (isPointed (turned .join .cause) ≡ true → pointed ≡ true) ⌝ }
     ensures { λ r. ⌜ laid (r .places) (buffers (now (vertices .exit)) (now (flags .exit)) (now (indexes .exit)) (originsIn (now (origins .exit))))
-        ≡ stores (turnStrokes (turned .walk .leading) (turned .walk .pen) (turned .span) (turned .connector) eps) (laid places (buffers (now (vertices .entry)) (now (flags .entry)) (now (indexes .entry)) (originsIn (now (origins .entry))))) ⌝ }
-    ensures { λ r. ⌜ (r .pen ≡ penTurned (turned .walk .pen) (turned .span) (turned .connector) eps) × (r .later ≡ laterOf (places .strokes) turned eps) ⌝ }
+        ≡ stores (strokesBy (turned .walk .leading) (turned .walk .pen) (madeBy turned) eps) (laid places (buffers (now (vertices .entry)) (now (flags .entry)) (now (indexes .entry)) (originsIn (now (origins .entry))))) ⌝ }
+    ensures { λ r. ⌜ (r .pen ≡ penBy (turned .walk .pen) (madeBy turned) eps) × (r .later ≡ laterOf (places .strokes) turned eps) ⌝ }
 {
     let walk = turned.walk;
-    let pen = walk.pen;
-    let drawing = walk.leading == 0;
-    let first = pen.step(turned.span, eps);
-    let drawn = moves::both(drawing, first.kept);
-    let due = moves::both(turned.curved, drawn);
-    let later = Later {
-        due,
-        place: places.strokes,
-        sweep: turned.sweep,
-    };
-    let half = store(
+    let leading = walk.leading;
+    let span = turned.span;
+    let half = store_move(
         vertices,
         flags,
         indexes,
         origins,
         places,
-        drawn,
-        first.stroke,
+        leading,
+        walk.pen,
+        span,
+        eps,
     );
-    let second = first.pen.step(turned.connector, eps);
-    let drawn = moves::both(drawing, second.kept);
-    let places = store(
+    let later = Later {
+        due: moves::both(turned.curved, half.drawn),
+        place: places.strokes,
+        sweep: turned.sweep,
+    };
+    let connector = turned.connector;
+    let tipped = store_tip(
         vertices,
         flags,
         indexes,
         origins,
         half,
-        drawn,
-        second.stroke,
+        leading,
+        connector,
+        turned.join,
+        pointed,
+        eps,
     );
-    let pen = second.pen;
+    let whole = store_move(
+        vertices,
+        flags,
+        indexes,
+        origins,
+        tipped.places,
+        leading,
+        tipped.pen,
+        connector,
+        eps,
+    );
+    let pen = whole.pen;
+    let places = whole.places;
     Left { pen, places, later }
 }
 
@@ -291,7 +385,8 @@ impl Sheet {
 // compiled into that place, and what it hands back need not go through memory. (The loop itself is called
 // from three.) Each chord is worked out one turn ahead, so that its root does not wait for the turn. A
 // sweep is kept by its bulge, and asked for right before its segment, which asks for an arc too: compiled,
-// the two are one test. A bulge is written one turn later.
+// the two are one test. A bulge is written one turn later. The mode is told beside the settings, for the
+// compiler: it follows a bool from call to call, and leaves the other mode out of the loop.
 fn store_turns(
     source: &[f64],
     v: usize,
@@ -300,12 +395,14 @@ fn store_turns(
     turns: usize,
     first: Sheet,
     settings: Settings,
+    pointed: bool,
     vertices: &mut [f64],
     flags: &mut [u8],
     indexes: &mut [u32],
     origins: &mut [u32],
 ) -> Sheet
-    requires { ⌜ Starts v «from» turns first (now source) (buffers (now vertices) (now flags) (now indexes) (originsIn (now origins))) ⌝ }
+    requires { ⌜ pointed ≡ arePointed (settings .corners) ⌝ }
+    requires { ⌜ Starts (movesASegment (settings .corners)) v «from» turns first (now source) (buffers (now vertices) (now flags) (now indexes) (originsIn (now origins))) ⌝ }
     ensures { λ r. ⌜ trail r (buffers (now (vertices .exit)) (now (flags .exit)) (now (indexes .exit)) (originsIn (now (origins .exit))))
         ≡ advances closed settings (routed v turns «from» (now (source .entry))) (trail first (buffers (now (vertices .entry)) (now (flags .entry)) (now (indexes .entry)) (originsIn (now (origins .entry))))) ⌝ }
     ensures { λ r. ⌜ Fit (r .walk) ⌝ }
@@ -324,9 +421,18 @@ fn store_turns(
         let sweep = sweep_from(&mut keys, &mut sweeps, walk.vertex, source, k, v);
         let segment = segments::offset_seg(walk.vertex, to, chord, sweep, settings.offset);
         let half = later.begin();
-        let turned = walk.turn(to, segment, settings);
+        let turned = walk.turn(to, segment, settings, pointed);
         let far = later.write(vertices, half, places);
-        let left = store_turn(vertices, flags, indexes, origins, far, turned, settings.eps);
+        let left = store_turn(
+            vertices,
+            flags,
+            indexes,
+            origins,
+            far,
+            turned,
+            pointed,
+            settings.eps,
+        );
         later = left.later;
         places = left.places;
         walk = turned.walk.after(left.pen, closed);
@@ -434,14 +540,16 @@ fn draw_closed(
     source: &[f64],
     v: usize,
     settings: Settings,
+    pointed: bool,
+    room: usize,
     vertices: &mut [f64],
     flags: &mut [u8],
     indexes: &mut [u32],
     origins: &mut [u32],
 ) -> Built
-    requires { ⌜ Ready v (2 * v) (now source) (buffers (now vertices) (now flags) (now indexes) (originsIn (now origins))) ⌝ }
+    requires { ⌜ Drawable v v room settings pointed (now source) (buffers (now vertices) (now flags) (now indexes) (originsIn (now origins))) ⌝ }
     ensures { λ r. ⌜ finished r (buffers (now (vertices .exit)) (now (flags .exit)) (now (indexes .exit)) (originsIn (now (origins .exit))))
-        ≡ builtOf (2 * v) (drawingOf true settings (verticesOf (now (source .entry)))) (buffers (now (vertices .entry)) (now (flags .entry)) (now (indexes .entry)) (originsIn (now (origins .entry)))) ⌝ }
+        ≡ builtOf room (drawingOf true settings (verticesOf (now (source .entry)))) (buffers (now (vertices .entry)) (now (flags .entry)) (now (indexes .entry)) (originsIn (now (origins .entry)))) ⌝ }
 {
     let first = Sheet::standing(source::vertex_at(source, v - 1), 2);
     let led = store_turns(
@@ -452,12 +560,24 @@ fn draw_closed(
         2,
         first,
         settings,
+        pointed,
         vertices,
         flags,
         indexes,
         origins,
     );
-    draw_around(source, v, led, settings, vertices, flags, indexes, origins)
+    draw_around(
+        source,
+        v,
+        led,
+        settings,
+        pointed,
+        room,
+        vertices,
+        flags,
+        indexes,
+        origins,
+    )
 }
 
 // From the first segment once around, back to its start, and the closing moves.
@@ -466,14 +586,16 @@ fn draw_around(
     v: usize,
     led: Sheet,
     settings: Settings,
+    pointed: bool,
+    room: usize,
     vertices: &mut [f64],
     flags: &mut [u8],
     indexes: &mut [u32],
     origins: &mut [u32],
 ) -> Built
-    requires { ⌜ Ready v (2 * v) (now source) (buffers (now vertices) (now flags) (now indexes) (originsIn (now origins))) × Entered led ⌝ }
+    requires { ⌜ Drawable v v room settings pointed (now source) (buffers (now vertices) (now flags) (now indexes) (originsIn (now origins))) × Entered settings led ⌝ }
     ensures { λ r. ⌜ finished r (buffers (now (vertices .exit)) (now (flags .exit)) (now (indexes .exit)) (originsIn (now (origins .exit))))
-        ≡ closes (2 * v) (led .walk .entry) (settings .eps) (advances true settings (routed v (v - 1) (nextOf v 1) (now (source .entry))) (trail led (buffers (now (vertices .entry)) (now (flags .entry)) (now (indexes .entry)) (originsIn (now (origins .entry)))))) ⌝ }
+        ≡ closes room (led .walk .entry) (settings .eps) (advances true settings (routed v (v - 1) (nextOf v 1) (now (source .entry))) (trail led (buffers (now (vertices .entry)) (now (flags .entry)) (now (indexes .entry)) (originsIn (now (origins .entry)))))) ⌝ }
 {
     let walk = led.walk;
     let next = source::next_place(v, 1);
@@ -485,6 +607,7 @@ fn draw_around(
         v - 1,
         led,
         settings,
+        pointed,
         vertices,
         flags,
         indexes,
@@ -497,13 +620,71 @@ fn draw_around(
         origins,
         sheet,
         walk.entry,
+        pointed,
         settings.eps,
-        2 * v,
+        room,
     )
 }
 
-// The closing moves: the last span, up to the closing join, and its connector. Where the two ends of that
+// The closing moves: the last span, up to the closing join, and its connectors. Where the two ends of that
 // join are one point, the connector is dropped like any move that leads nowhere.
+fn store_closing(
+    vertices: &mut [f64],
+    flags: &mut [u8],
+    indexes: &mut [u32],
+    origins: &mut [u32],
+    sheet: Sheet,
+    closing: JoinBoundary,
+    pointed: bool,
+    eps: f64,
+) -> Places
+    requires { ⌜ Rooms (length (closingMoves (sheet .walk) closing)) (laid (sheet .places) (buffers (now vertices) (now flags) (now indexes) (originsIn (now origins)))) ⌝ }
+    requires { ⌜ (sheet .walk .pen .number .0 + length (closingMoves (sheet .walk) closing) < 0x1_0000_0000) × (sheet .walk .source .0 < 0x8000_0000) ⌝ }
+    requires { ⌜ (isPointed (closing .cause) ≡ true → pointed ≡ true) ⌝ }
+    ensures { λ r. ⌜ laid r (buffers (now (vertices .exit)) (now (flags .exit)) (now (indexes .exit)) (originsIn (now (origins .exit))))
+        ≡ stores (strokesBy 0 (sheet .walk .pen) (closingMoves (sheet .walk) closing) eps) (laid (sheet .places) (buffers (now (vertices .entry)) (now (flags .entry)) (now (indexes .entry)) (originsIn (now (origins .entry))))) ⌝ }
+{
+    let walk = sheet.walk;
+    let span = walk.span_to(closing.current_end, closing.current_param);
+    let half = store_move(
+        vertices,
+        flags,
+        indexes,
+        origins,
+        sheet.places,
+        0,
+        walk.pen,
+        span,
+        eps,
+    );
+    let connector = Move::connector(walk.source, closing);
+    let tipped = store_tip(
+        vertices,
+        flags,
+        indexes,
+        origins,
+        half,
+        0,
+        connector,
+        closing,
+        pointed,
+        eps,
+    );
+    let whole = store_move(
+        vertices,
+        flags,
+        indexes,
+        origins,
+        tipped.places,
+        0,
+        tipped.pen,
+        connector,
+        eps,
+    );
+    whole.places
+}
+
+// The closing moves and what they finish.
 fn draw_closing(
     vertices: &mut [f64],
     flags: &mut [u8],
@@ -511,35 +692,23 @@ fn draw_closing(
     origins: &mut [u32],
     sheet: Sheet,
     closing: JoinBoundary,
+    pointed: bool,
     eps: f64,
     room: usize,
 ) -> Built
-    requires { ⌜ Lasts room sheet (buffers (now vertices) (now flags) (now indexes) (originsIn (now origins))) ⌝ }
+    requires { ⌜ Lasts (length (closingMoves (sheet .walk) closing)) room sheet (buffers (now vertices) (now flags) (now indexes) (originsIn (now origins))) × (isPointed (closing .cause) ≡ true → pointed ≡ true) ⌝ }
     ensures { λ r. ⌜ finished r (buffers (now (vertices .exit)) (now (flags .exit)) (now (indexes .exit)) (originsIn (now (origins .exit))))
         ≡ closes room closing eps (trail sheet (buffers (now (vertices .entry)) (now (flags .entry)) (now (indexes .entry)) (originsIn (now (origins .entry))))) ⌝ }
 {
-    let walk = sheet.walk;
-    let span = walk.span_to(closing.current_end, closing.current_param);
-    let first = walk.pen.step(span, eps);
-    let half = store(
+    let places = store_closing(
         vertices,
         flags,
         indexes,
         origins,
-        sheet.places,
-        first.kept,
-        first.stroke,
-    );
-    let connector = Move::connector(walk.source, closing);
-    let second = first.pen.step(connector, eps);
-    let places = store(
-        vertices,
-        flags,
-        indexes,
-        origins,
-        half,
-        second.kept,
-        second.stroke,
+        sheet,
+        closing,
+        pointed,
+        eps,
     );
     let result = RawOffsetResult {
         vertices: places.strokes as u32,
@@ -589,14 +758,16 @@ fn draw_open(
     source: &[f64],
     v: usize,
     settings: Settings,
+    pointed: bool,
+    room: usize,
     vertices: &mut [f64],
     flags: &mut [u8],
     indexes: &mut [u32],
     origins: &mut [u32],
 ) -> Built
-    requires { ⌜ Ready v (2 * (v - 1)) (now source) (buffers (now vertices) (now flags) (now indexes) (originsIn (now origins))) ⌝ }
+    requires { ⌜ Drawable v (v - 1) room settings pointed (now source) (buffers (now vertices) (now flags) (now indexes) (originsIn (now origins))) ⌝ }
     ensures { λ r. ⌜ finished r (buffers (now (vertices .exit)) (now (flags .exit)) (now (indexes .exit)) (originsIn (now (origins .exit))))
-        ≡ builtOf (2 * (v - 1)) (drawingOf false settings (verticesOf (now (source .entry)))) (buffers (now (vertices .entry)) (now (flags .entry)) (now (indexes .entry)) (originsIn (now (origins .entry)))) ⌝ }
+        ≡ builtOf room (drawingOf false settings (verticesOf (now (source .entry)))) (buffers (now (vertices .entry)) (now (flags .entry)) (now (indexes .entry)) (originsIn (now (origins .entry)))) ⌝ }
 {
     let first = Sheet::standing(source::vertex_at(source, 0), 1);
     let sheet = store_turns(
@@ -607,6 +778,7 @@ fn draw_open(
         v - 1,
         first,
         settings,
+        pointed,
         vertices,
         flags,
         indexes,
@@ -620,7 +792,7 @@ fn draw_open(
         sheet,
         v == 2,
         settings.eps,
-        2 * (v - 1),
+        room,
     )
 }
 
@@ -635,7 +807,7 @@ fn draw_last(
     eps: f64,
     room: usize,
 ) -> Built
-    requires { ⌜ Lasts room sheet (buffers (now vertices) (now flags) (now indexes) (originsIn (now origins))) ⌝ }
+    requires { ⌜ Lasts 2 room sheet (buffers (now vertices) (now flags) (now indexes) (originsIn (now origins))) ⌝ }
     ensures { λ r. ⌜ finished r (buffers (now (vertices .exit)) (now (flags .exit)) (now (indexes .exit)) (originsIn (now (origins .exit))))
         ≡ lasts room alone eps (trail sheet (buffers (now (vertices .entry)) (now (flags .entry)) (now (indexes .entry)) (originsIn (now (origins .entry))))) ⌝ }
 {
@@ -645,38 +817,70 @@ fn draw_last(
         wipe(vertices, flags, indexes, origins, room, 0, 0, 0);
         return Built::Done(RawOffsetResult::empty());
     }
-    let last = walk.pen.step(walk.span_to(current.end(), 1.0), eps);
-    let places = store(
+    let span = walk.span_to(current.end(), 1.0);
+    let last = store_move(
         vertices,
         flags,
         indexes,
         origins,
         sheet.places,
-        last.kept,
-        last.stroke,
+        0,
+        walk.pen,
+        span,
+        eps,
     );
-    finish_open(vertices, flags, indexes, origins, places, last.pen, room)
+    finish_open(
+        vertices,
+        flags,
+        indexes,
+        origins,
+        last.places,
+        last.pen,
+        room,
+    )
 }
 
-// The raw offset of a source of v vertices, in the first places of each buffer, two for each segment.
+// The raw offset of a source of v vertices, in the first `room` places of each buffer.
 pub fn draw(
     source: &[f64],
     v: usize,
     closed: bool,
     settings: Settings,
+    pointed: bool,
+    room: usize,
     vertices: &mut [f64],
     flags: &mut [u8],
     indexes: &mut [u32],
     origins: &mut [u32],
 ) -> Built
-    requires { ⌜ Ready v (2 * segmentsOf closed v) (now source) (buffers (now vertices) (now flags) (now indexes) (originsIn (now origins))) ⌝ }
+    requires { ⌜ Drawable v (segmentsOf closed v) room settings pointed (now source) (buffers (now vertices) (now flags) (now indexes) (originsIn (now origins))) ⌝ }
     ensures { λ r. ⌜ finished r (buffers (now (vertices .exit)) (now (flags .exit)) (now (indexes .exit)) (originsIn (now (origins .exit))))
-        ≡ builtOf (2 * segmentsOf closed v) (drawingOf closed settings (verticesOf (now (source .entry)))) (buffers (now (vertices .entry)) (now (flags .entry)) (now (indexes .entry)) (originsIn (now (origins .entry)))) ⌝ }
+        ≡ builtOf room (drawingOf closed settings (verticesOf (now (source .entry)))) (buffers (now (vertices .entry)) (now (flags .entry)) (now (indexes .entry)) (originsIn (now (origins .entry)))) ⌝ }
 {
     if closed {
-        return draw_closed(source, v, settings, vertices, flags, indexes, origins);
+        return draw_closed(
+            source,
+            v,
+            settings,
+            pointed,
+            room,
+            vertices,
+            flags,
+            indexes,
+            origins,
+        );
     }
-    draw_open(source, v, settings, vertices, flags, indexes, origins)
+    draw_open(
+        source,
+        v,
+        settings,
+        pointed,
+        room,
+        vertices,
+        flags,
+        indexes,
+        origins,
+    )
 }
 
 // The source as it is, with no flag set and each segment its own span: what an offset of zero draws.
@@ -684,19 +888,20 @@ pub fn copy(
     source: &[f64],
     v: usize,
     closed: bool,
+    room: usize,
     vertices: &mut [f64],
     flags: &mut [u8],
     indexes: &mut [u32],
     origins: &mut [u32],
 ) -> RawOffsetResult
-    requires { ⌜ Ready v (2 * segmentsOf closed v) (now source) (buffers (now vertices) (now flags) (now indexes) (originsIn (now origins))) ⌝ }
+    requires { ⌜ Ready v room (now source) (buffers (now vertices) (now flags) (now indexes) (originsIn (now origins))) × (2 * segmentsOf closed v ≤ room) × (room ≤ 12288) ⌝ }
     ensures { λ r. ⌜ (r ≡ resultOf (copied closed (verticesOf (now (source .entry)))))
         × (buffers (now (vertices .exit)) (now (flags .exit)) (now (indexes .exit)) (originsIn (now (origins .exit)))
-        ≡ shown (2 * segmentsOf closed v) (copied closed (verticesOf (now (source .entry)))) (buffers (now (vertices .entry)) (now (flags .entry)) (now (indexes .entry)) (originsIn (now (origins .entry))))) ⌝ }
+        ≡ shown room (copied closed (verticesOf (now (source .entry)))) (buffers (now (vertices .entry)) (now (flags .entry)) (now (indexes .entry)) (originsIn (now (origins .entry))))) ⌝ }
 {
     copy_numbers(source, 3 * v, vertices);
     let count = source::segment_count(v, closed);
-    wipe(vertices, flags, indexes, origins, 2 * count, v, 0, 0);
+    wipe(vertices, flags, indexes, origins, room, v, 0, 0);
     put_spans(origins, count);
     RawOffsetResult {
         vertices: v as u32,

@@ -1,50 +1,18 @@
--- `job::create_raw_offset` meets its contract: its tests are those of the job, in their order. Assumes nothing.
+-- `job::create_raw_offset` meets its contract. Assumes nothing.
+use mathlib.Core.Path.{sym, ap, _∙_}
 use borrow.Author.Needs.{needs}
-use mathlib.Core.Path.{sym, _∙_}
-use Rattle.job.proofs.Ends.{ragged-ends, many-ends, bad-ends, few-ends, good-ends}
+use Rattle.segments.specs.declared.Settings.{Settings}
+use Rattle.segments.specs.Modes.{arePointed}
 use Rattle.job.proofs.create_raw_offset.Statement.{statement}
 use Rattle.job.proofs.create_raw_offset.Tie as tie
 
+offset-drawing-requires : tie.Need-offset-drawing-requires
+offset-drawing-requires c κs = sym (ap (λ (σ : Settings). arePointed (σ .corners)) (c .before .before .before .before .round .ensures))
+
 returns : tie.Need-returns
-returns c = ragged-ends _ _ _ _ (c .if1 .taken)
-
-returns-2 : tie.Need-returns-2
-returns-2 c = many-ends _ _ _ _ (c .before .if1 .left) (c .if2 .taken)
-
-returns-3 : tie.Need-returns-3
-returns-3 c =
-    let searched = c .before .before .before in
-    bad-ends _ _ _ _ (searched .before .before .if1 .left) (searched .before .if2 .left) _ (sym (searched .first-bad-number .ensures) ∙ c .before .bad .given .1)
-
-returns-4 : tie.Need-returns-4
-returns-4 c =
-    let searched = c .before .before .before .before in
-    let nowhere = sym (searched .first-bad-number .ensures) ∙ c .before .before .enum-told .given .1 in
-    rw (c .empty .ensures) (few-ends _ _ _ _ (searched .before .before .if1 .left) (searched .before .if2 .left) nowhere (c .before .if3 .taken))
-
-returns-5 : tie.Need-returns-5
-returns-5 c =
-    let call = c .before .before .before .before .before .before .before .before in
-    let two = call .before .before .before .before .before in
-    let searched = two .before .before .before in
-    let nowhere = sym (searched .first-bad-number .ensures) ∙ two .before .enum-told .given .1 in
-    good-ends _ _ _ _ (searched .before .before .if1 .left) (searched .before .if2 .left) nowhere (two .if3 .left) (call .offset-good .ensures)
+returns c =
+    let drawn = c .before .before .before .before .before .before .before .before in
+    drawn .offset-drawing .ensures ∙ rw (drawn .before .before .before .before .before .round .ensures)
 
 pub create-raw-offset-spec : {M : Type 1} → statement M
-create-raw-offset-spec =
-    tie.close
-    (tie.spec
-    returns
-    returns-2
-    (λ c κs. search needs)
-    (λ c. search needs)
-    returns-3
-    (λ c. search needs)
-    (λ c κs. search needs)
-    returns-4
-    (λ c κs. search needs)
-    (λ c. search needs)
-    (λ c. search needs)
-    (λ c. search needs)
-    (λ c. search needs)
-    returns-5)
+create-raw-offset-spec = tie.close (tie.spec (λ c κs. tt) offset-drawing-requires (λ c. search needs) (λ c. search needs) (λ c. search needs) (λ c. search needs) returns)

@@ -12,13 +12,14 @@ use Rattle.sheet.proofs.copy.Tie as tie
 
 copy-numbers-requires : tie.Need-copy-numbers-requires
 copy-numbers-requires c κs =
-    let ready = c .before .before .before .before .before .before .pre in
-    (ready .long, source-fits _ _ _ _ ready)
+    let pre = c .before .before .before .before .before .before .pre in
+    (pre .0 .long, source-fits _ _ _ _ _ (pre .0) (pre .1))
 
 wipe-requires : tie.Need-wipe-requires
 wipe-requires c κs =
     let copied = c .before .before .before .before .before .before .before in
-    rw (c .before .before .before .before .segment-count .ensures) (source-within _ _ _ _ (copied .before .before .before .before .before .before .before .pre) _ (copied .copy-numbers .kept .1 .1 .0))
+    let pre = copied .before .before .before .before .before .before .before .pre in
+    source-within _ _ _ _ _ (pre .0) (pre .1) (pre .2) _ (copied .copy-numbers .kept .1 .1 .0)
 
 put-spans-requires : tie.Need-put-spans-requires
 put-spans-requires c κs =
@@ -28,7 +29,7 @@ put-spans-requires c κs =
     let few = segments-most (start .args .closed) (start .args .v) in
     let n = count .segment-count .ensures in
     let same = end .wipe .kept .1 .1 .1 .0 in
-    (omega (arith, start .pre .origins, origins-length (start .args .origins .now)), omega (arith, start .pre .most))
+    (omega (arith, start .pre .0 .origins, start .pre .1, origins-length (start .args .origins .now)), omega (arith, start .pre .0 .most))
 
 returns : tie.Need-returns
 unfolding copied
@@ -37,9 +38,9 @@ returns c =
     let end = spans .before .before .before .before .before .before .before .before .before .before in
     let count = end .before .before .before .before .before in
     let front = count .before .before .before in
-    let ready = front .before .before .before .before .before .before .before .pre in (
-      rw (count-vertices _ _ (ready .long)),
-      copied-shown _ _ _ _ ready _ _ (end .wipe .ensures ∙ rw (count .segment-count .ensures, front .copy-numbers .ensures)) (spans .put-spans .ensures ∙ rw (count .segment-count .ensures)),
+    let pre = front .before .before .before .before .before .before .before .pre in (
+      rw (count-vertices _ _ (pre .0 .long)),
+      copied-shown _ _ _ _ _ (pre .0) (pre .1) _ _ (end .wipe .ensures ∙ rw (front .copy-numbers .ensures)) (spans .put-spans .ensures ∙ rw (count .segment-count .ensures)),
     )
 
 pub copy-spec : {M : Type 1} → statement M
@@ -49,7 +50,6 @@ copy-spec =
     (λ c. search needs)
     copy-numbers-requires
     (λ c κs. search needs)
-    (λ c. search needs)
     wipe-requires
     put-spans-requires
     (λ c. search needs)

@@ -6,22 +6,22 @@ use Rattle.sheet.proofs.draw.Statement.{statement}
 use Rattle.sheet.proofs.draw.Tie as tie
 
 draw-closed-requires : tie.Need-draw-closed-requires
-draw-closed-requires c κs = let r = c .before .before .before .before .before .before .before .before .before .before .pre in rw (c .before .before .before .before .if1 .taken, segments-closed _ (r .two)) at r
+draw-closed-requires c κs = let r = c .before .before .before .before .before .before .before .before .before .before .pre in rw (c .before .before .before .before .if1 .taken, segments-closed _ (r .ready .two)) at r
 
 returns : tie.Need-returns
 returns c =
     let drawn = c .before .before .before .before .before .before .before .before in
     let way = drawn .before .before .before .before .before in
-    drawn .draw-closed .ensures ∙ rw (way .if1 .taken, segments-closed _ (way .before .before .before .before .before .before .pre .two))
+    drawn .draw-closed .ensures ∙ rw (way .if1 .taken)
 
 draw-open-requires : tie.Need-draw-open-requires
-draw-open-requires c κs = let r = c .before .before .before .before .before .before .before .before .before .before .pre in rw (c .before .before .before .before .if1 .left, segments-open _ (r .two)) at r
+draw-open-requires c κs = let r = c .before .before .before .before .before .before .before .before .before .before .pre in rw (c .before .before .before .before .if1 .left, segments-open _ (r .ready .two)) at r
 
 returns-2 : tie.Need-returns-2
 returns-2 c =
     let drawn = c .before .before .before .before .before .before .before .before in
     let way = drawn .before .before .before .before .before in
-    drawn .draw-open .ensures ∙ rw (way .if1 .left, segments-open _ (way .before .before .before .before .before .before .pre .two))
+    drawn .draw-open .ensures ∙ rw (way .if1 .left)
 
 pub draw-spec : {M : Type 1} → statement M
 draw-spec =

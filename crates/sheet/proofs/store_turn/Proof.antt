@@ -1,57 +1,64 @@
 -- `sheet::store_turn` meets its contract. Assumes nothing.
-use borrow.Author.Needs.{needs}
-use mathlib.Core.Path.{ap, _∙_}
-use Rattle.moves.specs.declared.Stepped.{Stepped}
-use Rattle.moves.specs.InnerSteps.{stepOf}
-use Rattle.sheet.proofs.Storing.{step-small, step-coded, drawn-room, room-less, drawn-leaves, two-stored}
+use mathlib.Core.Path.{_∙_}
+use native.Mathlib.Omega.{arith}
+use Rattle.sheet.proofs.Storing.{room-fewer, one-fewer, next-number, row-number, row-leaves, after-span, turn-pen, turn-stored, tip-one}
 use Rattle.sheet.proofs.store_turn.Statement.{statement}
 use Rattle.sheet.proofs.store_turn.Tie as tie
 
-store-requires : tie.Need-store-requires
-store-requires c κs =
-    let first = c .before .before .before .before .before in
-    let pre = first .before .before .before .before .before .before .before .before .before .pre in
-    ((λ t. room-less (drawn-room _ _ (first .both .ensures) (pre .0 .0) t)), step-coded _ _ _ (first .before .step .ensures) (pre .1 .0))
+store-move-requires : tie.Need-store-move-requires
+store-move-requires c κs =
+    let pre = c .before .before .before .before .before .before .before .before .before .before .pre in
+    ((λ z. room-fewer (omega arith) (pre .0 .0 z)), omega (arith, pre .0 .1), pre .1 .0)
 
-step-requires-2 : tie.Need-step-requires-2
-step-requires-2 c κs =
-    let first = c .before .before .before .before .before .before .before .before .before .before .before .before .before .before .before in
-    step-small _ _ _ _ (first .step .ensures) (first .before .before .before .before .before .before .before .before .pre .0 .1)
-
-store-requires-2 : tie.Need-store-requires-2
-store-requires-2 c κs =
+store-tip-requires : tie.Need-store-tip-requires
+store-tip-requires c κs =
     let half = c .before .before .before .before .before .before .before .before .before .before .before .before .before .before in
-    let pre = half .before .before .before .before .before .before .before .before .before .before .before .before .before .before .before .pre in
-    let second = c .before .before .before .before in (
-      (λ t. drawn-leaves _ _ (half .store .ensures) (drawn-room _ _ (second .both3 .ensures) (pre .0 .0) t)),
-      step-coded _ _ _ (second .before .step2 .ensures) (pre .1 .1),
+    let pre = half .before .before .before .before .before .before .before .before .before .before .before .pre in (
+      ((λ z. one-fewer (after-span _ _ _ _ _ (half .store-move .ensures .0) (pre .0 .0 z))), omega (arith, next-number _ _ _ (half .store-move .ensures .1 .0), pre .0 .1)),
+      (pre .1 .1, pre .1 .2),
+    )
+
+store-move-requires-2 : tie.Need-store-move-requires-2
+store-move-requires-2 c κs =
+    let tipped = c .before .before .before .before .before .before .before .before .before .before .before .before in
+    let half = tipped .before .before .before .before .before .before .before .before .before .before .before .before .before .before .before in
+    let start = half .before .before .before .before .before .before .before .before .before .before .before in
+    let pre = start .pre in (
+      (λ z. row-leaves _ 1 _ _ _ (tipped .store-tip .ensures .0) (after-span _ _ _ _ _ (half .store-move .ensures .0) (pre .0 .0 z))),
+      omega (arith, row-number _ _ _ (tipped .store-tip .ensures .1), next-number _ _ _ (half .store-move .ensures .1 .0), pre .0 .1, tip-one (start .args .turned .join) (start .args .turned .connector)),
+      pre .1 .1,
     )
 
 returns : tie.Need-returns
 returns c =
-    let second = c .before .before .before .before .before .before .before .before .before in
-    let half = second .before .before .before .before .before .before .before .before .before .before .before .before .before .before .before in
-    let drawn = half .before .before .before .before .before .before in
-    let a = drawn .before .before .before .before .before .before .before .before .before .args in
-    let step = drawn .before .step .ensures in
-    let step2 = second .before .before .before .before .before .before .step2 .ensures ∙ ap (λ (s : Stepped). stepOf (s .pen) (a .turned .connector) (a .eps)) step in (
-      two-stored _ _ step (drawn .both .ensures) (half .store .ensures) step2 (second .before .before .before .before .before .both3 .ensures) (second .store2 .ensures),
-      (ap (λ (s : Stepped). s .pen) step2, rw (half .before .before .before .before .before .both2 .ensures, drawn .both .ensures, step)),
+    let whole = c .before .before .before .before .before .before .before .before .before .before in
+    let tipped = whole .before .before .before .before .before .before .before .before .before .before .before .before .before in
+    let both = tipped .before .before .before .before .before .before in
+    let half = both .before .before .before .before .before .before .before .before .before in
+    let one = half .store-move .ensures .1 .0 in
+    let two = tipped .store-tip .ensures .1 in (
+      turn-stored _ _ _ _ _ _ one two _ (half .store-move .ensures .0) (tipped .store-tip .ensures .0) (whole .store-move2 .ensures .0),
+      (turn-pen 0 _ _ _ _ _ one two (whole .store-move2 .ensures .1 .0), rw (both .both .ensures, half .store-move .ensures .1 .1)),
     )
 
 pub store-turn-spec : {M : Type 1} → statement M
 store-turn-spec =
     tie.close
     (tie.spec
-    (λ c κs. search needs)
-    (λ c κs. search needs)
-    (λ c κs. search needs)
-    store-requires
-    step-requires-2
-    (λ c κs. search needs)
-    store-requires-2
-    (λ c. search needs)
-    (λ c. search needs)
-    (λ c. search needs)
-    (λ c. search needs)
+    store-move-requires
+    (λ c κs. tt)
+    store-tip-requires
+    store-move-requires-2
+    (λ c. let whole = c .before .before .before .before .before .before .before .before .before .before
+    in let tipped = whole .before .before .before .before .before .before .before .before .before .before .before .before .before
+    in whole .store-move2 .kept .0 ∙ tipped .store-tip .kept .0 ∙ tipped .before .before .before .before .before .before .before .before .before .before .before .before .before .before .before .store-move .kept .0)
+    (λ c. let whole = c .before .before .before .before .before .before .before .before .before .before
+    in let tipped = whole .before .before .before .before .before .before .before .before .before .before .before .before .before
+    in whole .store-move2 .kept .1 .0 ∙ tipped .store-tip .kept .1 .0 ∙ tipped .before .before .before .before .before .before .before .before .before .before .before .before .before .before .before .store-move .kept .1 .0)
+    (λ c. let whole = c .before .before .before .before .before .before .before .before .before .before
+    in let tipped = whole .before .before .before .before .before .before .before .before .before .before .before .before .before
+    in whole .store-move2 .kept .1 .1 .0 ∙ tipped .store-tip .kept .1 .1 .0 ∙ tipped .before .before .before .before .before .before .before .before .before .before .before .before .before .before .before .store-move .kept .1 .1 .0)
+    (λ c. let whole = c .before .before .before .before .before .before .before .before .before .before
+    in let tipped = whole .before .before .before .before .before .before .before .before .before .before .before .before .before
+    in whole .store-move2 .kept .1 .1 .1 .0 ∙ tipped .store-tip .kept .1 .1 .1 .0 ∙ tipped .before .before .before .before .before .before .before .before .before .before .before .before .before .before .before .store-move .kept .1 .1 .1 .0)
     returns)

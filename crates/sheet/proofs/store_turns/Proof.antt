@@ -9,30 +9,30 @@ use Rattle.moves.specs.Origins.{originsIn}
 use Rattle.moves.proofs.Origins.{origins-alike, lent-alike}
 use Rattle.sheet.specs.Buffers.{buffers}
 use Rattle.sheet.specs.InnerSteps.{Laid, trail, advances, routed}
-use Rattle.sheet.proofs.Loop.{Walking, wrote-later, walking-none, walking-turn, walking-done, walking-fit, room-later, room-turn, coded-turn}
+use Rattle.sheet.proofs.Loop.{Walking, wrote-later, walking-none, walking-turn, walking-done, walking-fit, room-later, room-turn, number-turn, coded-turn, tipped-turn}
 use Rattle.sheet.proofs.store_turns.Statement.{statement}
 use Rattle.sheet.proofs.store_turns.Tie as tie
 
 abbrev Inv-loop : tie.InvT-loop
-Inv-loop source v closed start n settings vertices₀ flags₀ indexes₀ origins₀ walk₀ places₀ k₀ chord₀ keys₀ sweeps₀ later₀ i₀ vertices flags indexes origins walk places k chord keys sweeps later i =
+Inv-loop source v closed start n settings pointed vertices₀ flags₀ indexes₀ origins₀ walk₀ places₀ k₀ chord₀ keys₀ sweeps₀ later₀ i₀ vertices flags indexes origins walk places k chord keys sweeps later i =
     let b₀ = buffers vertices₀ flags₀ indexes₀ (originsIn origins₀) in
     Walking closed settings source v n b₀ (advances closed settings (routed v n start source) (trail (record { walk = walk₀; places = places₀ }) b₀)) i k walk places later
     (buffers vertices flags indexes (originsIn origins)) chord keys sweeps
 
 abbrev μ-loop : tie.MeasureT-loop
-μ-loop source v closed start n settings vertices₀ flags₀ indexes₀ origins₀ walk₀ places₀ k₀ chord₀ keys₀ sweeps₀ later₀ i₀ vertices flags indexes origins walk places k chord keys sweeps later i = n - i
+μ-loop source v closed start n settings pointed vertices₀ flags₀ indexes₀ origins₀ walk₀ places₀ k₀ chord₀ keys₀ sweeps₀ later₀ i₀ vertices flags indexes origins walk places k chord keys sweeps later i = n - i
 
 loop-holds : tie.Need-loop-holds Inv-loop μ-loop
 loop-holds c =
     let chord = c .before in
-    let pre = chord .before .before .before .before .before .before .before .before .pre in
+    let pre = chord .before .before .before .before .before .before .before .before .pre .1 in
     walking-none (c .nothing .ensures) (pre .below) (pre .turns) (chord .chord-to .ensures)
 
 sweep-from-requires : tie.Need-sweep-from-requires Inv-loop μ-loop
 sweep-from-requires c κs =
     let here = c .before .before .before .before .before .before in
     let on = here .loop .inv in
-    (on .memo, (on .below, omega (arith, here .before .before .before .before .before .before .before .before .before .before .pre .long)))
+    (on .memo, (on .below, omega (arith, here .before .before .before .before .before .before .before .before .before .before .pre .1 .long)))
 
 offset-seg-requires : tie.Need-offset-seg-requires Inv-loop μ-loop
 offset-seg-requires c κs =
@@ -43,7 +43,7 @@ turn-requires : tie.Need-turn-requires Inv-loop μ-loop
 turn-requires c κs =
     let here = c .before .before .before .before .before .before .before .before in
     let room = here .before .loop .inv .room in
-    (omega (arith, here .loop-test .taken, room .sources), (room .fit, c .before .offset-seg .ensures))
+    (omega (arith, here .loop-test .taken, room .sources), ((room .fit, here .before .before .before .before .before .before .before .before .before .before .before .pre .0), c .before .offset-seg .ensures))
 
 store-turn-requires : tie.Need-store-turn-requires Inv-loop μ-loop
 store-turn-requires c κs =
@@ -54,16 +54,20 @@ store-turn-requires c κs =
     let w = wrote .write in
     let t = turn .turn .ensures in (
       (
-        (λ z. room-turn on (w .result) (here .loop-test .taken) (w .ensures .1) (record { vertices = w .kept .1 .0; flags = refl; indexes = refl; origins = refl }) (sym (t .4) ∙ z)),
-        rw (t .3) (omega (arith, here .loop-test .taken, on .room .outputs)),
+        (λ z. room-turn on _ (turn .turn .result) (t .0) (w .result) (here .loop-test .taken) (w .ensures .1) (record { vertices = w .kept .1 .0; flags = refl; indexes = refl; origins = refl }) (sym (t .4) ∙ z)),
+        rw (t .3) (number-turn on (here .loop-test .taken)),
       ),
-      coded-turn on _ (turn .turn .result) (here .loop-test .taken) (t .0),
+      (
+        coded-turn on _ (turn .turn .result) (here .loop-test .taken) (t .0),
+        omega (arith, t .5, here .loop-test .taken, on .room .sources),
+        λ z. here .before .before .before .before .before .before .before .before .before .before .before .pre .0 ∙ tipped-turn on _ (turn .turn .result) (t .0) z,
+      ),
     )
 
 next-fits : tie.Need-add--turn Inv-loop μ-loop
 next-fits c =
     let here = c .before .before .before .before .before .before .before .before .before .before .before .before .before .before .before .before .before .before .before .before .before .before .before .before .before .before .before .before .before in
-    omega (arith, here .loop-test .taken, here .before .before .before .before .before .before .before .before .before .before .before .pre .turns .sources)
+    omega (arith, here .loop-test .taken, here .before .before .before .before .before .before .before .before .before .before .before .pre .1 .turns .sources)
 
 loop-less : tie.Need-loop-less Inv-loop μ-loop
 loop-less c = omega (arith, c .before .before .before .before .before .before .before .before .before .before .before .before .before .before .before .before .before .before .before .before .before .before .before .before .before .before .before .before .before .loop-test .taken)
@@ -115,12 +119,12 @@ store-turns-spec =
     (tie.spec
     Inv-loop
     μ-loop
-    (λ c κs. let pre = c .before .before .before .before .before .before .before .pre in omega (arith, pre .long, pre .below))
+    (λ c κs. let pre = c .before .before .before .before .before .before .before .pre .1 in omega (arith, pre .long, pre .below))
     (λ c κs. tt)
     loop-holds
-    (λ c κs. omega (arith, c .before .loop .inv .below, c .before .before .before .before .before .before .before .before .before .before .before .pre .long))
+    (λ c κs. omega (arith, c .before .loop .inv .below, c .before .before .before .before .before .before .before .before .before .before .before .pre .1 .long))
     (λ c κs. c .before .before .loop .inv .below)
-    (λ c κs. omega (arith, c .next-place .ensures .1, c .before .before .before .before .before .before .before .before .before .before .before .before .before .pre .long))
+    (λ c κs. omega (arith, c .next-place .ensures .1, c .before .before .before .before .before .before .before .before .before .before .before .before .before .pre .1 .long))
     sweep-from-requires
     offset-seg-requires
     (λ c κs. tt)
