@@ -28,7 +28,9 @@ use Rattle.moves.proofs.Lists.{length-corners, length-flagsOf, length-originsOf
 use Rattle.moves.proofs.Shapes.{length-ray}
 use Rattle.moves.proofs.Rows.{in-front}
 use Rattle.walk.specs.Walk.{walkDrawing, drawingOf, copied}
-use Rattle.walk.proofs.Lengths.{open-drawing, closed-drawing, drawing-fits}
+use Rattle.walk.specs.Walk.{movesASegment}
+use Rattle.walk.proofs.Lengths.{moves-few, two-moves, open-drawing, closed-drawing, drawing-fits}
+use Rattle.sheet.proofs.Products.{product-most}
 use Rattle.walk.proofs.Origins.{drawing-never-falls, drawing-below, length-spans, spans-climb, spans-below}
 use Rattle.sheet.specs.Buffers.{padded, noOrigin, shown}
 use Rattle.job.specs.Verdict.{drawn}
@@ -108,7 +110,8 @@ module _ (j : Job) (d : Drawing) (w : DoneWith j d) (s : ℕ) where
       let origins = ap (λ o. take (segmentCount d) (o .buffers .origins)) (w .is) ∙ own noOrigin (places j) (d .origins) (j .buffers .origins) (segmentCount d) (e .origins) in
       let same = ap length flags ∙ e .flags ∙ sym (e .origins) ∙ sym (ap length origins) in
       let most = segments-most (j .closed) (count j) in
-      let whole : take 0xffff_ffff (d .origins) ≡ d .origins = take-all 0xffff_ffff (d .origins) (omega (arith, w .few-origins, w .few-vertices)) in
+      let three = product-most (movesASegment (j .settings .corners)) 3 (sources j) (moves-few (j .settings .corners)) in
+      let whole : take 0xffff_ffff (d .origins) ≡ d .origins = take-all 0xffff_ffff (d .origins) (omega (arith, w .few-origins, w .few-vertices, three)) in
       record {
         drawing = d;
         done = ap (λ o. o .answer) (w .is);
@@ -149,10 +152,11 @@ module _ (j : Job) where
       let n = segmentsOf (j .closed) (length (points j)) in
       let spans = length-spans 0 n in
       let is = counted in
+      let more = product-most 1 (movesASegment (j .settings .corners)) (sources j) (omega (arith, two-moves (j .settings .corners))) in
       record {
         is = e;
         even = even-copied (j .closed) (points j) (rw (length-vertices (j .source)) (r .two));
-        few-origins = omega arith;
+        few-origins = omega (arith, more);
         few-vertices = r .numbers .whole .few;
         level = in-front _ _ (spans-climb 0 n);
         below = λ o x. omega (arith, spans-below 0 n x);
@@ -162,11 +166,11 @@ module _ (j : Job) where
   done-whole : Numbers j → (T (eq (j .settings .offset) zero) → ⊥) → outcome j ≡ placed (places j) (drawn (drawing j)) (j .buffers) → DoneWith j (drawing j)
   done-whole n z e =
       let is = counted in
-      let room = drawing-fits (j .closed) (j .settings) (points j) in
+      let room = rw counted at (drawing-fits (j .closed) (j .settings) (points j)) in
       record {
         is = e;
         even = even-drawing (j .closed) (j .settings) (points j);
-        few-origins = omega arith;
+        few-origins = omega (arith, room .flags, room .origins);
         few-vertices = n .whole .few;
         level = drawing-never-falls (j .closed) (j .settings) (points j);
         below = λ o x. omega (arith, drawing-below (j .closed) (j .settings) (points j) x);

@@ -1,8 +1,9 @@
 -- A walk that is asked for a stroke answers as the rule says, open (`open-answered`) and closed (`closed-answered`): its strokes are those of the kept moves, and each is told by
 -- the rows of its own segment, which are the boundaries that the walk has at hand there (`followed`). It stands where the same turns lead without a question (`asks-stood`).
 -- Assumes nothing.
-use mathlib.Core.Path.{_≡_, refl, sym, ap, _∙_}
-use mathlib.Core.List.{List, [], _∷_, _++_}
+use mathlib.Core.Path.{_≡_, refl, sym, ap, _∙_, subst}
+use mathlib.Core.Logic.{⊎-elim}
+use mathlib.Core.List.{List, [], _∷_, _++_, List·Memᴰ, List·Memᴰ·head, List·Memᴰ·tail, List·Memᴰ·cases-cons}
 use mathlib.Core.Bool.{Bool, true, false}
 use Prim.Native.Nat.{ℕ, zero, suc, _+_, _<_}
 use native.Mathlib.Nat.{zero-add, add-suc, suc-add}
@@ -16,22 +17,28 @@ use Rattle.floats.specs.Choice.{when_give_else_, _and_}
 use Rattle.vectors.specs.declared.Vector2.{Vector2}
 use Rattle.segments.specs.declared.PlineVertex.{PlineVertex}
 use Rattle.segments.specs.declared.Settings.{Settings}
-use Rattle.segments.specs.Vertex.{vertexAt}
+use Rattle.segments.specs.declared.RawOffsetSeg.{RawOffsetSeg}
+use Rattle.segments.specs.Vertex.{posOf, vertexAt}
+use Rattle.meetings.specs.declared.ArcRule.{ArcRule}
 use Rattle.segments.specs.Segment.{offsetSeg, endOf, isCollapsed}
 use Rattle.refusals.specs.declared.Refusal.the-variants.{NoSuchSegment}
 use Rattle.joins.specs.declared.JoinBoundary.{JoinBoundary}
 use Rattle.joins.specs.declared.JoinCause.the-variants.{Coincident}
 use Rattle.joins.specs.Boundary.{straight}
-use Rattle.joins.specs.Rules.{ruledBoundary}
+use Rattle.joins.specs.Rules.{ruledJoin}
+use Rattle.joins.specs.Corner.{cornered}
+use Rattle.joins.proofs.Corner.{corner-edges, corner-forgets}
 use Rattle.moves.specs.declared.Move.{Move}
 use Rattle.moves.specs.declared.Stroke.{Stroke}
 use Rattle.moves.specs.declared.Stepped.{Stepped}
-use Rattle.moves.specs.Made.{segmentOf, spanMove, connectorMove}
+use Rattle.moves.specs.Made.{segmentOf, spanMove, connectorMove, tipMove, tipMoves, connectorMoves}
+use Rattle.moves.proofs.Tips.{connector-facts}
 use Rattle.moves.specs.Drawing.{kept, lastPoint, corners, drawnOpen, drawnClosed, finiteVertex, allFinite}
 use Rattle.moves.specs.InnerSteps.{stepOf, strokeOf, strokes}
 use Rattle.walk.specs.Walk.{joinAt, lastVertex, closingJoin, walkStart, walkMoves, walkDrawing, loneCollapsed, drawingOf}
 use Rattle.walk.specs.Spans.{Edge, cornersFrom, closingCorner, joinIn, startAt, endAt, wholeStart, wholeEnd, startsOf, endsOf}
-use Rattle.walk.specs.InnerSteps.{Stood, standingAt, firstEntry, entering, afterTurn, turnTo, spanTo, lastSpan, drawnBy, turnStrokes, penTurned, advance, goes, drawnOn}
+use Rattle.walk.specs.InnerSteps.{Standing, Stood, standingAt, firstEntry, entering, afterTurn, turnTo, spanTo, lastSpan, drawnBy, strokesBy, penBy, advance, goes, drawnOn}
+use Rattle.walk.proofs.Turning.{led-undrawn}
 use Rattle.walk.proofs.Around.{open-led, open-drawn, ledIn, closed-drawn}
 use Rattle.walk.proofs.Branches.{row-at, lastEdge, On, turned, first}
 use Rattle.walk.proofs.Unmet.{never-one}
@@ -41,7 +48,7 @@ use Rattle.why.specs.declared.Telling.{Telling}
 use Rattle.why.specs.declared.WhyAnswer.{WhyAnswer}
 use Rattle.why.specs.declared.WhyAnswer.the-variants.{Refused}
 use Rattle.why.specs.Why.{tellingOf, toldAt, walkAnswer}
-use Rattle.why.specs.InnerSteps.{tellingIn, toldIf, answersBy, finitely, Noted, noteOf, Asked, notedOf, standingAsked, entryAfter, askedTurn, asks, finishOf, finishOpen, lastAnswer, closingAnswer, drawnAnswer}
+use Rattle.why.specs.InnerSteps.{tellingIn, toldIf, answersBy, finitely, Noted, noteOf, notesOf, Asked, notedOf, standingAsked, entryAfter, askedTurn, asks, finishOf, finishOpen, lastAnswer, closingAnswer, drawnAnswer}
 
 -- ---- one row of strokes after another
 
@@ -129,17 +136,62 @@ module _ (starts ends : List Edge) (k n : ℕ) (entry j : JoinBoundary) (ε : Fl
   one-noted m before h =
       rw (told-alike (tellingIn entry j) (rowsTell starts ends) k n (stepOf (before .pen) m ε) (before .answer) (row-tells (stepOf (before .pen) m ε .stroke) h))
 
-  -- two of them
-  two-noted : (m c : Move) (before : Noted) → Rows starts ends (segmentOf (m .origin)) (startAt entry) (endAt j) → Rows starts ends (segmentOf (c .origin)) (startAt entry) (endAt j)
-      → noteOf (tellingIn entry j) k n c ε (noteOf (tellingIn entry j) k n m ε before)
-      ≡ record {
-        pen = penTurned (before .pen) m c ε;
-        answer = answersBy (rowsTell starts ends) k (turnStrokes n (before .pen) m c ε) (before .answer);
-        finite = finitely (turnStrokes n (before .pen) m c ε) (before .finite);
-      }
-  two-noted m c before h l =
-      rw (one-noted m before h, one-noted c (noteOf (rowsTell starts ends) k n m ε before) l)
-      (unfold noteOf in rw (answers-append (rowsTell starts ends) k, finitely-append))
+  -- a row of them
+  abbrev Told : Noted → List Move → Noted
+  Told before ms = record {
+    pen = penBy (before .pen) ms ε;
+    answer = answersBy (rowsTell starts ends) k (strokesBy n (before .pen) ms ε) (before .answer);
+    finite = finitely (strokesBy n (before .pen) ms ε) (before .finite);
+  }
+
+  row-noted : (ms : List Move) (before : Noted) → ((m : Move) → List·Memᴰ m ms → Rows starts ends (segmentOf (m .origin)) (startAt entry) (endAt j))
+      → notesOf (tellingIn entry j) k n ms ε before ≡ Told before ms
+  unfolding notesOf penBy strokesBy
+  row-noted [] before h = unfold answersBy finitely in refl
+  row-noted (m ∷ ms) before h =
+      ap (notesOf (tellingIn entry j) k n ms ε) (one-noted m before (h m (List·Memᴰ·head refl)))
+      ∙ row-noted ms (noteOf (rowsTell starts ends) k n m ε before) (λ x r. h x (List·Memᴰ·tail r)) ∙ (unfold noteOf in rw (answers-append (rowsTell starts ends) k, finitely-append))
+
+-- nothing is answered while turns lead in
+led-one : (f : Stroke → Telling) (k n : ℕ) (m : Move) (ε : Float) (before : Noted)
+    → (noteOf f k (suc n) m ε before .answer ≡ before .answer) × (noteOf f k (suc n) m ε before .finite ≡ before .finite)
+unfolding noteOf drawnBy when_give_else_ _and_ answersBy finitely
+led-one f k n m ε before = rw (eqb·suc-zero n) (refl, refl)
+
+led-noted : (f : Stroke → Telling) (k n : ℕ) (ms : List Move) (ε : Float) (before : Noted)
+    → (notesOf f k (suc n) ms ε before .answer ≡ before .answer) × (notesOf f k (suc n) ms ε before .finite ≡ before .finite)
+unfolding notesOf
+led-noted f k n [] ε before = (refl, refl)
+led-noted f k n (m ∷ ms) ε before =
+    let one = led-one f k n m ε before in
+    let on = led-noted f k n ms ε (noteOf f k (suc n) m ε before) in
+    (on .0 ∙ one .0, on .1 ∙ one .1)
+
+same-asked : {s : Stood} {e : JoinBoundary} {x y : WhyAnswer} {f g : Bool} → x ≡ y → f ≡ g
+    → _≡_ {A = Asked} (record { stood = s; entry = e; answer = x; finite = f }) (record { stood = s; entry = e; answer = y; finite = g })
+same-asked p q = cc
+
+-- ---- the edges of the spans beside a join, whether it has a tip or not
+module _ (g h : RawOffsetSeg) (shared : Vector2) (σ : Settings) where
+  abbrev its : JoinBoundary
+  its = cornered g h shared σ (ruledJoin g h shared σ)
+
+  edge-end : endAt its ≡ endAt (ruledJoin g h shared σ)
+  edge-end =
+      let e = corner-edges g h shared σ .ends in
+      ap (λ (p : Float). record { param = p; rule = its .«current_rule» }) (e .0) ∙ ap (λ (r : ArcRule). record { param = ruledJoin g h shared σ .«current_param»; rule = r }) (e .1)
+
+  edge-start : startAt its ≡ startAt (ruledJoin g h shared σ)
+  edge-start =
+      let e = corner-edges g h shared σ .starts in
+      ap (λ (p : Float). record { param = p; rule = its .«next_rule» }) (e .0) ∙ ap (λ (r : ArcRule). record { param = ruledJoin g h shared σ .«next_param»; rule = r }) (e .1)
+
+-- a span and the connectors after it are moves of one segment
+own-rows : {starts ends : List Edge} (i : ℕ) (j : JoinBoundary) (span : Move) {s e : Edge} → segmentOf (span .origin) ≡ i → Rows starts ends i s e
+    → (m : Move) → List·Memᴰ m (span ∷ connectorMoves i j) → Rows starts ends (segmentOf (m .origin)) s e
+own-rows {starts} {ends} i j span {s} {e} own r m h =
+    subst (λ (n : ℕ). Rows starts ends n s e)
+    (sym (⊎-elim (λ (q : m ≡ span). ap (λ (x : Move). segmentOf (x .origin)) q ∙ own) (λ w. ap segmentOf (connector-facts i j m w .0)) (List·Memᴰ·cases-cons h))) r
 
 -- ---- turns lead where they lead without the question
 module _ (closed : Bool) (σ : Settings) (k : ℕ) where
@@ -166,7 +218,10 @@ module _ (closed : Bool) (σ : Settings) (a₀ b₀ : PlineVertex) (vs₀ : List
   turn-rows : {a c : PlineVertex} {vs : List PlineVertex} (q : Asked) → Along a (c ∷ vs) q
       → Rows starts ends (q .stood .walker .source .0) (startAt (q .entry)) (endAt (turnTo (q .stood .walker) c σ .join))
   unfolding cornersFrom turnTo
-  turn-rows q h = rw (h .current) (record { start = row-at starts _ (h .rows .starts) wholeStart; end = row-at ends _ (h .rows .ends) wholeEnd })
+  turn-rows {c = c} q h = rw (h .current) (record {
+    start = row-at starts _ (h .rows .starts) wholeStart;
+    end = row-at ends _ (h .rows .ends) wholeEnd ∙ sym (edge-end (offsetSeg _ (q .stood .walker .vertex) (σ .offset)) (offsetSeg (q .stood .walker .vertex) c (σ .offset)) (posOf (q .stood .walker .vertex)) σ);
+  })
 
   last-rows : {a : PlineVertex} (q : Asked) → Along a [] q → Rows starts ends (q .stood .walker .source .0) (startAt (q .entry)) (lastEdge closed σ a₀ b₀ vs₀)
   unfolding cornersFrom
@@ -183,15 +238,19 @@ module _ (closed : Bool) (σ : Settings) (a₀ b₀ : PlineVertex) (vs₀ : List
 
   turn-along : {a c : PlineVertex} {vs : List PlineVertex} (q : Asked) → Along a (c ∷ vs) q → Along (q .stood .walker .vertex) vs (askedTurn closed σ k c q)
   unfolding askedTurn advance afterTurn turnTo
-  turn-along q h = rw (h .led, entry-on, h .current, add-one) (record { led = refl; current = refl; rows = turned closed σ a₀ b₀ vs₀ (h .rows) })
+  turn-along {a} {c} {vs} q h =
+      let v = q .stood .walker .vertex in
+      let e = edge-start (offsetSeg a v (σ .offset)) (offsetSeg v c (σ .offset)) (posOf v) σ in
+      rw (h .led, entry-on, h .current, add-one)
+      (record { led = refl; current = refl; rows = subst (λ (s : Edge). On closed σ a₀ b₀ vs₀ (suc (q .stood .walker .source .0)) v c s vs) (sym e) (turned closed σ a₀ b₀ vs₀ (h .rows)) })
 
   turn-told : {a c : PlineVertex} {vs : List PlineVertex} (q : Asked) → Along a (c ∷ vs) q → let ss = advance closed σ c (q .stood) .strokes in
       (askedTurn closed σ k c q .answer ≡ answersBy (rowsTell starts ends) k ss (q .answer)) × (askedTurn closed σ k c q .finite ≡ finitely ss (q .finite))
-  unfolding askedTurn advance turnTo spanMove connectorMove
+  unfolding askedTurn advance turnTo spanMove
   turn-told {c = c} q h =
       let r = turn-rows q h in
       let t = turnTo (q .stood .walker) c σ in
-      let e = two-noted starts ends k (q .stood .leading) (q .entry) (t .join) (σ .eps) (t .span) (t .connector) (notedOf q) r r in
+      let e = row-noted starts ends k (q .stood .leading) (q .entry) (t .join) (σ .eps) (t .span ∷ t .connectors) (notedOf q) (own-rows (q .stood .walker .source .0) _ (t .span) refl r) in
       (ap (λ (n : Noted). n .answer) e, ap (λ (n : Noted). n .finite) e)
 
   -- all its turns are told by the rows, and where it stands then are those of the last segment
@@ -238,8 +297,19 @@ module _ (σ : Settings) (k : ℕ) (a b : PlineVertex) (vs : List PlineVertex) w
   open-along = record { led = refl; current = refl; rows = first false σ a b vs }
 
   open-followed : Followed false σ a b vs k (b ∷ vs) (standingAsked a 1)
-  unfolding asks askedTurn noteOf standingAsked standingAt drawnOn advance drawnBy when_give_else_ _and_ answersBy finitely
-  open-followed = let f = followed false σ a b vs k a vs _ open-along in record { answer = f .answer; finite = f .finite; last = f .last }
+  unfolding asks askedTurn standingAsked standingAt drawnOn
+  open-followed =
+      let f = followed false σ a b vs k a vs _ open-along in
+      let q = standingAsked a 1 in
+      let on = drawnOn false σ vs (advance false σ b (q .stood) .stood) in
+      let tell = rowsTell (startsOf false σ a b vs) (endsOf false σ a b vs) in
+      let led : (askedTurn false σ k b q .answer ≡ q .answer) × (askedTurn false σ k b q .finite ≡ q .finite) = led-noted _ k 0 _ (σ .eps) (notedOf q) in
+      let none : advance false σ b (q .stood) .strokes ≡ [] = unfold advance in led-undrawn 0 _ _ (σ .eps) in
+      record {
+        answer = f .answer ∙ ap (answersBy tell k on) (led .0) ∙ ap (λ (ss : List Stroke). answersBy tell k (ss ++ on) (q .answer)) (sym none);
+        finite = f .finite ∙ ap (finitely on) (led .1) ∙ ap (λ (ss : List Stroke). finitely (ss ++ on) (q .finite)) (sym none);
+        last = f .last;
+      }
 
   open-noted : let w = openEnd .stood .walker in let end = endOf (w .current) in let p = walkStart false σ a b vs in let ks = kept (σ .eps) p (walkMoves false σ a b vs) in
       noteOf (tellingIn (openEnd .entry) (straight Coincident end end)) k 0 (lastSpan w) (σ .eps) (notedOf openEnd)
@@ -266,37 +336,51 @@ module _ (σ : Settings) (k : ℕ) (a b : PlineVertex) (vs : List PlineVertex) w
       by false h = rw (alone-is, h, open-noted) (open-finish _ _ k _ _)
 
   -- ---- closed
+  abbrev back : RawOffsetSeg
+  back = offsetSeg (lastVertex b vs) a (σ .offset)
+
+  abbrev out : RawOffsetSeg
+  out = offsetSeg a b (σ .offset)
+
   abbrev closing : JoinBoundary
-  closing = joinIn σ (closingCorner σ a b vs)
+  closing = its back out (posOf a) σ
 
   -- led in by the closing join
   abbrev entered : Asked
   entered = record { stood = ledIn σ a b vs; entry = closing; answer = Refused NoSuchSegment; finite = true }
 
   closed-entered : asks true σ k (a ∷ b ∷ []) (standingAsked (lastVertex b vs) 2) ≡ entered
-  unfolding asks askedTurn noteOf standingAsked standingAt advance turnTo afterTurn entering firstEntry entryAfter drawnBy when_give_else_ _and_ answersBy finitely ledIn closingJoin joinAt
-  closed-entered = refl
+  unfolding asks askedTurn standingAsked standingAt advance turnTo afterTurn entering firstEntry entryAfter when_give_else_ ledIn closingJoin joinAt
+  closed-entered =
+      let one = led-noted _ k 1 _ (σ .eps) (notedOf (standingAsked (lastVertex b vs) 2)) in
+      let two = led-noted _ k 0 _ (σ .eps) (notedOf (askedTurn true σ k a (standingAsked (lastVertex b vs) 2))) in
+      same-asked (two .0 ∙ one .0) (two .1 ∙ one .1)
 
   closed-along : Along true σ a b vs k a (vs ++ a ∷ []) entered
   unfolding ledIn when_give_else_
-  closed-along = record { led = refl; current = refl; rows = first true σ a b vs }
+  closed-along = record { led = refl; current = refl; rows = subst (λ (s : Edge). On true σ a b vs 0 a b s (vs ++ a ∷ [])) (sym (edge-start back out (posOf a) σ)) (first true σ a b vs) }
 
   abbrev closedEnd : Asked
   closedEnd = asks true σ k (vs ++ a ∷ []) entered
 
+  -- the moves by it are those by the join without its rules
+  closing-same : (w : Standing) → let k = closingJoin σ a b vs in
+      spanTo w (closing .«current_end») (closing .«current_param») ∷ connectorMoves (w .source .0) closing ≡ spanTo w (k .«current_end») (k .«current_param») ∷ connectorMoves (w .source .0) k
+  unfolding closingJoin joinAt connectorMoves tipMoves tipMove connectorMove
+  closing-same w = ap (λ (j : JoinBoundary). spanTo w (j .«current_end») (j .«current_param») ∷ connectorMoves (w .source .0) j) (corner-forgets back out (posOf a) σ)
+
   closed-noted : let w = closedEnd .stood .walker in let f = tellingIn (closedEnd .entry) closing in let p = walkStart true σ a b vs in
       let ks = kept (σ .eps) p (walkMoves true σ a b vs) in
-      let both = noteOf f k 0 (connectorMove (w .source .0) closing) (σ .eps)
-      (noteOf f k 0 (spanTo w (closing .«current_end») (closing .«current_param»)) (σ .eps) (notedOf closedEnd)) in
-      (both .answer ≡ toldAt (startsOf true σ a b vs) (endsOf true σ a b vs) ks k) × (both .finite ≡ allFinite (corners p ks))
-  unfolding spanMove connectorMove ruledBoundary closingJoin joinAt when_give_else_
+      let all = notesOf f k 0 (spanTo w (closing .«current_end») (closing .«current_param») ∷ connectorMoves (w .source .0) closing) (σ .eps) (notedOf closedEnd) in
+      (all .answer ≡ toldAt (startsOf true σ a b vs) (endsOf true σ a b vs) ks k) × (all .finite ≡ allFinite (corners p ks))
+  unfolding spanMove when_give_else_
   closed-noted =
       let w = closedEnd .stood .walker in
       let f = followed true σ a b vs k a (vs ++ a ∷ []) entered closed-along in
       let span = spanTo w (closing .«current_end») (closing .«current_param») in
-      let connector = connectorMove (w .source .0) closing in
-      let both = two-noted (startsOf true σ a b vs) (endsOf true σ a b vs) k 0 (closedEnd .entry) closing (σ .eps) span connector (notedOf closedEnd) (f .last) (f .last) in
-      rw (both, f .answer, f .finite, asks-stood, ← answers-append, ← finitely-append, closed-drawn σ a b vs, all-told, all-finite) (refl, refl)
+      let last = subst (λ (e : Edge). Rows (startsOf true σ a b vs) (endsOf true σ a b vs) (w .source .0) (startAt (closedEnd .entry)) e) (sym (edge-end back out (posOf a) σ)) (f .last) in
+      let all = row-noted (startsOf true σ a b vs) (endsOf true σ a b vs) k 0 (closedEnd .entry) closing (σ .eps) _ (notedOf closedEnd) (own-rows (w .source .0) closing span refl last) in
+      rw (all, closing-same w, f .answer, f .finite, asks-stood, ← answers-append, ← finitely-append, closed-drawn σ a b vs, all-told, all-finite) (refl, refl)
 
   closed-ended : closingAnswer closing (σ .eps) k closedEnd ≡ drawnAnswer true σ (a ∷ b ∷ vs) k
   unfolding closingAnswer drawnAnswer walkAnswer drawingOf loneCollapsed walkDrawing when_give_else_

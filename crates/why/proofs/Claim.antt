@@ -32,7 +32,7 @@ use Rattle.moves.specs.declared.Move.{Move}
 use Rattle.moves.specs.declared.Origin.{Origin}
 use Rattle.moves.specs.declared.Origin.the-variants.{Span, Connector}
 use Rattle.moves.specs.declared.Reason.{Reason}
-use Rattle.moves.specs.declared.Reason.the-variants.{InOrder, TurnedBack, CollapsedArc, Round, Reversal, Meeting, CollapsedSide, NoMeeting, CandidatesMissed, ZeroTangent, SameDirection, Copied}
+use Rattle.moves.specs.declared.Reason.the-variants.{InOrder, TurnedBack, CollapsedArc, Round, Reversal, Meeting, CollapsedSide, NoMeeting, CandidatesMissed, ZeroTangent, SameDirection, Copied, Pointed}
 use Rattle.moves.specs.declared.RawOffsetResult.{RawOffsetResult}
 use Rattle.moves.specs.Reason.{reasonNumber, isInvalid}
 use Rattle.moves.specs.Drawing.{Drawing, nothing, moveEnd, kept, originsOf, allFinite, resultOf}
@@ -80,7 +80,7 @@ tight-or-same false Nowhere false false next = inl refl
 room-aside : (fits : ℕ → Bool) (closed : Bool) (σ : Settings) (vs : List PlineVertex)
     → (verdictOf fits closed σ vs ≡ refused NoRoom) ⊎ (verdictOf fits closed σ vs ≡ verdictOf (λ room. true) closed σ vs)
 unfolding verdictOf roomyVerdict
-room-aside fits closed σ vs = tight-or-same (ltb 4096 (length vs)) (firstOf (numberTests vs σ)) (ltb (length vs) 2) (fits (roomFor closed (length vs))) _
+room-aside fits closed σ vs = tight-or-same (ltb 4096 (length vs)) (firstOf (numberTests vs σ)) (ltb (length vs) 2) (fits (roomFor (σ .corners) closed (length vs))) _
 
 -- what is answered where the job is not refused for room: its own refusal, or else what is told
 abbrev instead : WhyAnswer → RawOffsetAnswer → WhyAnswer
@@ -142,6 +142,7 @@ invalid↔flagged CandidatesMissed = (λ e. gap (omega arith) (omega arith), λ 
 invalid↔flagged ZeroTangent = (λ e. gap (omega arith) (omega arith), λ f. refl)
 invalid↔flagged SameDirection = (λ e. gap (omega arith) (omega arith), λ f. refl)
 invalid↔flagged Copied = unset 12 (λ e. omega arith) (λ e. omega arith) (λ l h. omega arith)
+invalid↔flagged Pointed = unset 13 (λ e. omega arith) (λ e. omega arith) (λ l h. omega arith)
 
 -- the flags and the origins that a drawing leaves in the buffers are its own
 padded-at : {A : Type 0} (z : A) (room : ℕ) (xs old : List A) (i : ℕ) (e : A) → i < length xs → getD (padded z room xs old) i e ≡ getD xs i e

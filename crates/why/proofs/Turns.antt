@@ -9,7 +9,9 @@ use lib.Ieee.{Float}
 use Rattle.segments.specs.declared.PlineVertex.{PlineVertex}
 use Rattle.segments.specs.declared.Settings.{Settings}
 use Rattle.source.specs.InnerSteps.{vertexOf, nextOf}
+use Rattle.walk.specs.Walk.{movesASegment}
 use Rattle.walk.specs.InnerSteps.{stood, Fit, advance}
+use Rattle.walk.proofs.Lengths.{moves-few}
 use Rattle.sheet.specs.InnerSteps.{routed}
 use Rattle.sheet.proofs.Loop.{Moved, advance-moved}
 use Rattle.why.specs.declared.Asking.{Asking}
@@ -33,13 +35,13 @@ module _ {closed : Bool} {σ : Settings} {k : ℕ} {s : List Float} {v n : ℕ} 
         let z : n - i ≡ suc (n - (i + 1)) = omega arith in
         let more : asks closed σ k (routed v (suc (n - (i + 1))) p s) (asked a) ≡ asks closed σ k (routed v (n - (i + 1)) (nextOf v p) s) (askedTurn closed σ k (vertexOf s p) (asked a)) =
         unfold asks routed in refl in
-        let m : Moved c (stood (a .walk)) (stood (a′ .walk)) (length (advance closed σ c (stood (a .walk)) .strokes)) = rw (ap (λ (q : Asked). q .stood) e) (unfold askedTurn in advance-moved closed σ c (stood (a .walk))) in
+        let m : Moved (movesASegment (σ .corners)) c (stood (a .walk)) (stood (a′ .walk)) (length (advance closed σ c (stood (a .walk)) .strokes)) = rw (ap (λ (q : Asked). q .stood) e) (unfold askedTurn in advance-moved closed σ c (stood (a .walk))) in
         let r = on .ready in
         record {
           within = omega arith;
           below = hp .1;
           left = rw (e, hp .0, hc) (sym more ∙ ap (λ t. asks closed σ k (routed v t p s) (asked a)) (sym z) ∙ on .left);
-          ready = record { fit = f; sources = omega (arith, r .sources, m .source); outputs = omega (arith, r .outputs, m .number) };
+          ready = record { fit = f; sources = omega (arith, r .sources, m .source); outputs = omega (arith, r .outputs, m .number, moves-few (σ .corners)) };
         }
 
     pub asks-done : n ≤ i → asked a ≡ end

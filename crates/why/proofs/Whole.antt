@@ -27,6 +27,7 @@ use Rattle.sheet.specs.InnerSteps.{routed}
 use Rattle.sheet.proofs.Routes.{length-routed, first-two, others, last-is, open-route, lead-route, around-route}
 use Rattle.sheet.proofs.Loop.{advance-moved}
 use Rattle.job.specs.Verdict.{Verdict, refused, drawn, finiteVerdict, distinctVerdict, roomyVerdict, verdictOf}
+use Rattle.walk.proofs.Lengths.{moves-few}
 use Rattle.job.proofs.Ways.{found, not-found}
 use Rattle.why.specs.declared.WhyAnswer.{WhyAnswer}
 use Rattle.why.specs.declared.WhyAnswer.the-variants.{Refused}
@@ -40,7 +41,7 @@ use Rattle.why.proofs.Asked.{open-answered, closed-answered}
 -- n turns add so much at most
 pub record Added (n : ℕ) (q q′ : Asked) : Type 0 where
   pub source : q′ .stood .walker .source .0 ≤ q .stood .walker .source .0 + n
-  pub number : q′ .stood .pen .number .0 ≤ q .stood .pen .number .0 + 2 * n
+  pub number : q′ .stood .pen .number .0 ≤ q .stood .pen .number .0 + 3 * n
 
 asks-added : (closed : Bool) (σ : Settings) (k : ℕ) (vs : List PlineVertex) (q : Asked) → Added (length vs) q (asks closed σ k vs q)
 unfolding asks askedTurn
@@ -48,7 +49,7 @@ asks-added closed σ k [] q = record { source = omega arith; number = omega arit
 asks-added closed σ k (c ∷ vs) q =
     let m = advance-moved closed σ c (q .stood) in
     let n = asks-added closed σ k vs (askedTurn closed σ k c q) in
-    record { source = omega (arith, m .source, n .source); number = omega (arith, m .number, n .number) }
+    record { source = omega (arith, m .source, n .source); number = omega (arith, m .number, n .number, moves-few (σ .corners)) }
 
 -- and of the code
 pub turns-added : (closed : Bool) (σ : Settings) (k : ℕ) (s : List Float) (v n p : ℕ) (a : Asking) (q : Asked) → asked a ≡ asks closed σ k (routed v n p s) q → Added n q (asked a)

@@ -19,7 +19,7 @@ use Rattle.joins.specs.Boundary.{straight}
 use Rattle.moves.specs.declared.Move.{Move}
 use Rattle.moves.specs.declared.Pen.{Pen}
 use Rattle.moves.specs.declared.Stroke.{Stroke}
-use Rattle.moves.specs.Made.{connectorMove}
+use Rattle.moves.specs.Made.{connectorMoves}
 use Rattle.moves.specs.Drawing.{finiteVertex, allFinite}
 use Rattle.moves.specs.InnerSteps.{stepOf, sure}
 use Rattle.walk.specs.Walk.{drawingOf}
@@ -70,6 +70,11 @@ noteOf f k n m ε before =
     let st = stepOf (before .pen) m ε in
     record { pen = st .pen; answer = answersBy f k (drawnBy n st) (before .answer); finite = finitely (drawnBy n st) (before .finite) }
 
+-- moves one after the other
+unfoldable pub notesOf : (Stroke → Telling) → ℕ → ℕ → List Move → Float → Noted → Noted
+notesOf f k n [] ε before = before
+notesOf f k n (m ∷ ms) ε before = notesOf f k n ms ε (noteOf f k n m ε before)
+
 -- ---- turns
 
 -- where the walk stands, where its span starts, with the rules, and what is answered
@@ -98,8 +103,8 @@ askedTurn closed σ k c q =
     let w = advance closed σ c (q .stood) .stood in
     let f = tellingIn (q .entry) (t .join) in
     let n = q .stood .leading in
-    let both = noteOf f k n (t .connector) (σ .eps) (noteOf f k n (t .span) (σ .eps) (notedOf q)) in
-    record { stood = w; entry = entryAfter n closed (t .join) (w .walker .entry); answer = both .answer; finite = both .finite }
+    let all = notesOf f k n (t .span ∷ t .connectors) (σ .eps) (notedOf q) in
+    record { stood = w; entry = entryAfter n closed (t .join) (w .walker .entry); answer = all .answer; finite = all .finite }
 
 -- a turn for each vertex
 unfoldable pub asks : Bool → Settings → ℕ → List PlineVertex → Asked → Asked
@@ -110,7 +115,7 @@ asks closed σ k (c ∷ vs) q = asks closed σ k vs (askedTurn closed σ k c q)
 pub record Ready (t : ℕ) (a : Asking) : Type 0 where
   pub fit : Fit (a .walk)
   pub sources : a .walk .source .0 + t < 0x1_0000_0000
-  pub outputs : a .walk .pen .number .0 + 2 * t < 0x1_0000_0000
+  pub outputs : a .walk .pen .number .0 + 3 * t < 0x1_0000_0000
 
 -- and over a source of v vertices, from place k on
 pub record Starts (v k t : ℕ) (a : Asking) (s : List Float) : Type 0 where
@@ -138,8 +143,8 @@ unfoldable pub closingAnswer : JoinBoundary → Float → ℕ → Asked → WhyA
 closingAnswer j ε k q =
     let w = q .stood .walker in
     let f = tellingIn (q .entry) j in
-    let both = noteOf f k 0 (connectorMove (w .source .0) j) ε (noteOf f k 0 (spanTo w (j .«current_end») (j .«current_param»)) ε (notedOf q)) in
-    finishOf (both .answer) (both .finite)
+    let all = notesOf f k 0 (spanTo w (j .«current_end») (j .«current_param») ∷ connectorMoves (w .source .0) j) ε (notedOf q) in
+    finishOf (all .answer) (all .finite)
 
 -- the answer of a source's walk (01 §1, No. 6)
 unfoldable pub drawnAnswer : Bool → Settings → List PlineVertex → ℕ → WhyAnswer

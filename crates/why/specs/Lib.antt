@@ -1,3 +1,4 @@
 pub mod Why
+pub mod Handed
 pub mod Claim
 pub mod InnerSteps

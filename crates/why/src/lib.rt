@@ -11,15 +11,16 @@ ghost use Rattle.segments.specs.InnerSteps.{bulgeBy};
 ghost use Rattle.source.specs.Source.{verticesOf, segmentsOf};
 ghost use Rattle.source.specs.InnerSteps.{nextOf};
 ghost use Rattle.moves.specs.declared.Origin.the-variants.{Span};
-ghost use Rattle.moves.specs.InnerSteps.{sure};
+ghost use Rattle.moves.specs.InnerSteps.{tipFirst, sure};
 ghost use Rattle.walk.specs.Spans.{startAt, endAt, wholeEnd};
 ghost use Rattle.walk.specs.InnerSteps.{Fit};
 ghost use Rattle.sheet.specs.InnerSteps.{routed};
 ghost use Rattle.job.specs.Verdict.{distinctVerdict};
 ghost use Rattle.job.specs.InnerSteps.{Counted};
 ghost use Rattle.why.specs.Why.{paramOf, tellingFor, copyAnswer, walkAnswer, answerBy, whyOf, numbersOf};
+ghost use Rattle.why.specs.Handed.{handed, handedOf};
 ghost use Rattle.why.specs.declared.WhyAnswer.the-variants.{Told};
-ghost use Rattle.why.specs.InnerSteps.{Noted, noted, tellingIn, toldIf, noteOf, asked, standingAsked, entryAfter, askedTurn, asks, Ready, Starts, finishOf, finishOpen, lastAnswer, closingAnswer, drawnAnswer, goodAnswer};
+ghost use Rattle.why.specs.InnerSteps.{Noted, noted, tellingIn, toldIf, noteOf, notesOf, asked, standingAsked, entryAfter, askedTurn, asks, Ready, Starts, finishOf, finishOpen, lastAnswer, closingAnswer, drawnAnswer, goodAnswer};
 use joins::JoinBoundary;
 use joins::JoinCause;
 use meetings::ArcRule;
@@ -189,6 +190,27 @@ pub struct Note {
 }
 
 impl Note {
+    // The first of two connectors, if the boundary has a tip: `connector` is the other.
+    fn tip(
+        self,
+        leading: u32,
+        connector: Move,
+        entry: JoinBoundary,
+        boundary: JoinBoundary,
+        eps: f64,
+        segment: OutputSegment,
+    ) -> Note
+        requires { ⌜ self .pen .number .0 + 1 < 0x1_0000_0000 ⌝ }
+        ensures { λ r. ⌜ noted r ≡ notesOf (tellingIn entry boundary) (segment .0) leading (tipFirst boundary connector) eps (noted self) ⌝ }
+    {
+        let cause = boundary.cause;
+        if !cause.is_pointed() {
+            return self;
+        }
+        let tip = connector.to_tip(boundary.tip);
+        self.step(leading, tip, entry, boundary, eps, segment)
+    }
+
     // One move more, between two boundaries; it is drawn if it is kept and no turn leads in any more.
     fn step(
         self,
@@ -289,7 +311,7 @@ impl Asking {
         }
     }
 
-    // On to `next`: its span and its connector are looked at.
+    // On to `next`: its span and its connectors are looked at.
     fn turn(
         self,
         next: PlineVertex,
@@ -298,7 +320,7 @@ impl Asking {
         segment: OutputSegment,
     ) -> Asking
         requires { ⌜ self .walk .source .0 + 1 < 0x1_0000_0000 ⌝ }
-        requires { ⌜ self .walk .pen .number .0 + 2 < 0x1_0000_0000 ⌝ }
+        requires { ⌜ self .walk .pen .number .0 + 3 < 0x1_0000_0000 ⌝ }
         requires { ⌜ Fit (self .walk) ⌝ }
         ensures { λ r. ⌜ (asked r ≡ askedTurn closed settings (segment .0) next (asked self)) × Fit (r .walk) ⌝ }
     {
@@ -307,22 +329,24 @@ impl Asking {
         let leading = walk.leading;
         let eps = settings.eps;
         let ahead = CarriedSeg::anew(walk.vertex, next, settings.offset);
-        let turned = walk.turn(next, ahead, settings);
+        let corners = settings.corners;
+        let turned = walk.turn(next, ahead, settings, corners.are_pointed());
         let boundary = turned.join;
         let connector = turned.connector;
         let bulge = bulge_by(turned.curved, turned.sweep);
         let span = turned.span.bulging(bulge);
         let before = self.note();
         let half = before.step(leading, span, entry, boundary, eps, segment);
-        let both = half.step(leading, connector, entry, boundary, eps, segment);
-        let walk = turned.walk.after(both.pen, closed);
+        let tipped = half.tip(leading, connector, entry, boundary, eps, segment);
+        let whole = tipped.step(leading, connector, entry, boundary, eps, segment);
+        let walk = turned.walk.after(whole.pen, closed);
         let entry = entry_after(leading, closed, boundary, walk.entry);
-        let answer = both.answer;
+        let answer = whole.answer;
         Asking {
             walk,
             entry,
             answer,
-            doubt: both.doubt,
+            doubt: whole.doubt,
         }
     }
 }
@@ -392,9 +416,9 @@ fn ask_last(asking: Asking, alone: bool, eps: f64, segment: OutputSegment) -> Wh
     finish_open(before.step(0, span, entry, whole, eps, segment))
 }
 
-// The closing moves of a closed walk: the last span, up to the closing join, and its connector.
+// The closing moves of a closed walk: the last span, up to the closing join, and its connectors.
 fn ask_closing(asking: Asking, closing: JoinBoundary, eps: f64, segment: OutputSegment) -> WhyAnswer
-    requires { ⌜ asking .walk .pen .number .0 + 2 < 0x1_0000_0000 ⌝ }
+    requires { ⌜ asking .walk .pen .number .0 + 3 < 0x1_0000_0000 ⌝ }
     ensures { λ r. ⌜ r ≡ closingAnswer closing eps (segment .0) (asked asking) ⌝ }
 {
     let walk = asking.walk;
@@ -403,9 +427,10 @@ fn ask_closing(asking: Asking, closing: JoinBoundary, eps: f64, segment: OutputS
     let connector = Move::connector(walk.source, closing);
     let before = asking.note();
     let half = before.step(0, span, entry, closing, eps, segment);
-    let both = half.step(0, connector, entry, closing, eps, segment);
-    let answer = both.answer;
-    finish(answer, both.doubt)
+    let tipped = half.tip(0, connector, entry, closing, eps, segment);
+    let whole = tipped.step(0, connector, entry, closing, eps, segment);
+    let answer = whole.answer;
+    finish(answer, whole.doubt)
 }
 
 // An open walk: led in by one turn, from the first vertex.
@@ -471,6 +496,26 @@ fn ask_good(
         return ask_closed(source, v, settings, segment);
     }
     ask_open(source, v, settings, segment)
+}
+
+impl WhyNumbers {
+    // What a caller in C is handed: the number, and in `seven` number, place, 1 for a connector, source
+    // segment, reason, and the rules at the span's start and end; in `params` both parameters.
+    pub fn hand(self, seven: &mut [u32; 7], params: &mut [f64; 2]) -> u32
+        ensures { λ r. ⌜ handed r (now (seven .exit)) (now (params .exit)) ≡ handedOf self ⌝ }
+    {
+        *seven = [
+            self.number,
+            self.place,
+            self.connector,
+            self.source,
+            self.reason,
+            self.start_rule,
+            self.end_rule,
+        ];
+        *params = [self.start_param, self.end_param];
+        self.number
+    }
 }
 
 const MOST_VERTICES: usize = 4096;
