@@ -1,10 +1,10 @@
-// The stage for callers in C and Rust: one function, by its C name.
+// The stage with round corners, for callers in C and Rust: one function, by its C name.
 ghost use mathlib.Core.Path.{_≡_};
+ghost use Rattle.segments.specs.Modes.{roundBy};
 ghost use Rattle.moves.specs.Origins.{originsIn};
 ghost use Rattle.sheet.specs.Buffers.{buffers};
 ghost use Rattle.job.specs.Job.{jobOf};
-ghost use Rattle.blidrosk.specs.Handed.{handed, handedOf};
-use segments::Settings;
+ghost use Rattle.job.specs.Handed.{handed, handedOf};
 
 // Offsets a drawing into the four lent buffers, and returns the number of the answer. `answer` is
 // set to number, place, count of vertices, count of indexes, and 1 where the drawing is closed.
@@ -21,13 +21,17 @@ pub extern "C" fn blidrosk_raw_offset(
     answer: &mut [u32; 5],
 ) -> u32
     ensures { λ r. ⌜ handed r (now (answer .exit)) (buffers (now (vertices .exit)) (now (flags .exit)) (now (indexes .exit)) (originsIn (now (origins .exit))))
-        ≡ handedOf (jobOf (now (source .entry)) closed (record { offset = offset; eps = eps }) (buffers (now (vertices .entry)) (now (flags .entry)) (now (indexes .entry)) (originsIn (now (origins .entry))))) ⌝ }
+        ≡ handedOf (jobOf (now (source .entry)) closed (roundBy offset eps) (buffers (now (vertices .entry)) (now (flags .entry)) (now (indexes .entry)) (originsIn (now (origins .entry))))) ⌝ }
 {
-    let settings = Settings { offset, eps };
-    let a = job::create_raw_offset(source, closed, settings, vertices, flags, indexes, origins);
-    let n = a.number();
-    let k = a.place();
-    let r = a.result();
-    *answer = [n, k, r.vertices, r.indexes, r.closed as u32];
-    n
+    let a = job::create_raw_offset(
+        source,
+        closed,
+        offset,
+        eps,
+        vertices,
+        flags,
+        indexes,
+        origins,
+    );
+    job::hand(a, answer)
 }

@@ -1,8 +1,9 @@
-// Why an output segment's flag is set or clear, for callers in C and Rust: one function, by its C name.
-// It is a crate of its own, so that its walk is compiled apart from the one that draws.
+// Why an output segment's flag is set or clear, for callers in C and Rust: one function, by its
+// C name. It is a crate of its own, so that its walk is compiled apart from the one that draws.
 ghost use mathlib.Core.Path.{_≡_};
+ghost use Rattle.segments.specs.Modes.{roundBy};
 ghost use Rattle.why.specs.Why.{whyOf, numbersOf};
-ghost use Rattle.blidrosk_why.specs.Handed.{handed, handedOf};
+ghost use Rattle.why.specs.Handed.{handed, handedOf};
 use segments::OutputSegment;
 use segments::Settings;
 
@@ -19,20 +20,9 @@ pub extern "C" fn blidrosk_why(
     answer: &mut [u32; 7],
     params: &mut [f64; 2],
 ) -> u32
-    ensures { λ r. ⌜ handed r (now (answer .exit)) (now (params .exit)) ≡ handedOf (numbersOf (whyOf (now (source .entry)) closed (record { offset = offset; eps = eps }) segment)) ⌝ }
+    ensures { λ r. ⌜ handed r (now (answer .exit)) (now (params .exit)) ≡ handedOf (numbersOf (whyOf (now (source .entry)) closed (roundBy offset eps) segment)) ⌝ }
 {
-    let settings = Settings { offset, eps };
+    let settings = Settings::round(offset, eps);
     let told = why::why(source, closed, settings, OutputSegment(segment));
-    let n = told.numbers();
-    *answer = [
-        n.number,
-        n.place,
-        n.connector,
-        n.source,
-        n.reason,
-        n.start_rule,
-        n.end_rule,
-    ];
-    *params = [n.start_param, n.end_param];
-    n.number
+    told.numbers().hand(answer, params)
 }

@@ -57,6 +57,7 @@ causeNumber Cause.NoMeeting = 5
 causeNumber Cause.CandidatesMissed = 6
 causeNumber Cause.ZeroTangent = 7
 causeNumber Cause.SameDirection = 8
+causeNumber Cause.OuterPoint = 9
 
 abbrev pub joinListed : JoinBoundary → Listed
 joinListed j =

@@ -7,6 +7,7 @@ ghost use Rattle.angles.specs.Angle.{atanOf, tanOf, angleOf};
 ghost use Rattle.intersections.specs.Lines.{lineLine};
 ghost use Rattle.intersections.specs.LineCircle.{lineCircle};
 ghost use Rattle.intersections.specs.Circles.{circleCircle};
+ghost use Rattle.segments.specs.Modes.{roundBy};
 ghost use Rattle.segments.specs.InnerSteps.{fullSeg, Marked};
 ghost use Rattle.joins.specs.InnerSteps.{seenSeg};
 ghost use Rattle.layers.specs.InnerSteps.{listed, lineLineListed, lineCircleListed, circleCircleListed, causeNumber, joinListed, joinOfFour};
@@ -245,6 +246,7 @@ fn cause_number(cause: JoinCause) -> u32
         JoinCause::CandidatesMissed => 6,
         JoinCause::ZeroTangent => 7,
         JoinCause::SameDirection => 8,
+        JoinCause::OuterPoint => 9,
     }
 }
 
@@ -271,9 +273,9 @@ fn listed_join(boundary: JoinBoundary, out: &mut [f64; 7]) -> u32
 // joins::analyze_join at the third of four vertices, after the join at the second, as a walk comes to it
 #[no_mangle]
 pub extern "C" fn layers_join(source: &[f64; 12], offset: f64, eps: f64, out: &mut [f64; 7]) -> u32
-    ensures { λ r. ⌜ listed r (now (out .exit)) ≡ joinListed (joinOfFour (now (source .entry)) (record { offset = offset; eps = eps })) ⌝ }
+    ensures { λ r. ⌜ listed r (now (out .exit)) ≡ joinListed (joinOfFour (now (source .entry)) (roundBy offset eps)) ⌝ }
 {
-    let settings = Settings { offset, eps };
+    let settings = Settings::round(offset, eps);
     let b = source::vertex_at(source, 1);
     let c = source::vertex_at(source, 2);
     let current = CarriedSeg::anew(b, c, offset);

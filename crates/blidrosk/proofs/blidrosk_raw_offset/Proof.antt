@@ -1,26 +1,16 @@
 -- `blidrosk::blidrosk_raw_offset` meets its contract. Assumes nothing.
 use borrow.Author.Needs.{needs}
-use Rattle.blidrosk.proofs.Tells.{tells}
+use mathlib.Core.Path.{ap, _∙_}
+use Rattle.job.specs.Job.{Outcome}
+use Rattle.job.specs.Handed.{handed, handedOf}
 use Rattle.blidrosk.proofs.blidrosk_raw_offset.Statement.{statement}
 use Rattle.blidrosk.proofs.blidrosk_raw_offset.Tie as tie
 
 returns : tie.Need-returns
+unfolding handedOf
 returns c =
-    let numbered = c .before .before .before .before in
-    let call = numbered .before .before .before .before .before .before .before .before .before in
-    tells _ _ _ _ _ _ (call .create-raw-offset .ensures) (numbered .number .ensures) (c .before .before .before .place .ensures) (c .before .before .result .ensures)
+    let made = c in
+    rw (made .hand .ensures .0, made .hand .ensures .1) (ap (λ (o : Outcome). handedOf o) (made .before .before .before .before .before .before .before .before .before .before .create-raw-offset .ensures))
 
 pub blidrosk-raw-offset-spec : {M : Type 1} → statement M
-blidrosk-raw-offset-spec =
-    tie.close
-    (tie.spec
-    (λ c κs. search needs)
-    (λ c κs. search needs)
-    (λ c κs. search needs)
-    (λ c κs. search needs)
-    (λ c. search needs)
-    (λ c. search needs)
-    (λ c. search needs)
-    (λ c. search needs)
-    (λ c. search needs)
-    returns)
+blidrosk-raw-offset-spec = tie.close (tie.spec (λ c κs. tt) (λ c κs. tt) (λ c. search needs) (λ c. search needs) (λ c. search needs) (λ c. search needs) returns)

@@ -5,6 +5,7 @@ use borrow.Author.Needs.{needs}
 use lib.Ieee.{Float}
 use Rattle.vectors.specs.declared.Vector2.{Vector2}
 use Rattle.segments.specs.declared.Settings.{Settings}
+use Rattle.segments.specs.Modes.{roundBy}
 use Rattle.segments.specs.declared.PlineVertex.{PlineVertex}
 use Rattle.segments.specs.declared.RawOffsetSeg.{RawOffsetSeg}
 use Rattle.segments.specs.Vertex.{posOf}
@@ -19,9 +20,9 @@ analyze-join-requires : tie.Need-analyze-join-requires
 analyze-join-requires c κs = (c .before .before .before .before .before .before .before .anew .ensures .marked, c .before .anew2 .ensures .marked)
 
 -- a join of the vertices' segments
-joined-four : {g h : RawOffsetSeg} {b c d : PlineVertex} {p : Vector2} (s : List Float) (σ : Settings) →
-    g ≡ offsetSeg b c (σ .offset) → h ≡ offsetSeg c d (σ .offset) → p ≡ posOf c → b ≡ vertexOf s 1 → c ≡ vertexOf s 2 → d ≡ vertexOf s 3 → ruledJoin g h p σ ≡ joinOfFour s σ
-joined-four s σ g h p b c d = rw (g, h, p, b, c, d)
+joined-four : {g h : RawOffsetSeg} {b c d : PlineVertex} {p : Vector2} {τ : Settings} (s : List Float) (σ : Settings) → τ ≡ σ →
+    g ≡ offsetSeg b c (σ .offset) → h ≡ offsetSeg c d (σ .offset) → p ≡ posOf c → b ≡ vertexOf s 1 → c ≡ vertexOf s 2 → d ≡ vertexOf s 3 → ruledJoin g h p τ ≡ joinOfFour s σ
+joined-four s σ t g h p b c d = rw (t, g, h, p, b, c, d)
 
 returns : tie.Need-returns
 returns c =
@@ -29,16 +30,18 @@ returns c =
     let next = joined .before .before in
     let seen = next .before .before .before in
     let current = seen .before .before .before in
+    let settings = current .before .before .before .before .before in
+    let a = settings .before .args in
     c .listed-join .ensures
     ∙ ap joinListed
     (joined .analyze-join .ensures .boundary
-    ∙ joined-four _ _ (seen .seen-before .ensures ∙ current .anew .ensures .full) (next .anew2 .ensures .full) (joined .before .pos .ensures)
+    ∙ joined-four _ (roundBy (a .offset) (a .eps)) (settings .round .ensures) (seen .seen-before .ensures ∙ current .anew .ensures .full) (next .anew2 .ensures .full) (joined .before .pos .ensures)
     (current .before .before .before .vertex-at .ensures) (current .before .vertex-at2 .ensures) (next .before .vertex-at4 .ensures))
 
 pub layers-join-spec : {M : Type 1} → statement M
 layers-join-spec =
     tie.close
     (tie.spec
-    (λ c κs. search needs) (λ c κs. search needs) (λ c κs. search needs) (λ c κs. search needs) (λ c κs. c .before .before .anew .ensures .marked) (λ c κs. search needs) (λ c κs. search needs) (λ c κs. search needs)
+    (λ c κs. tt) (λ c κs. search needs) (λ c κs. search needs) (λ c κs. search needs) (λ c κs. search needs) (λ c κs. c .before .before .anew .ensures .marked) (λ c κs. search needs) (λ c κs. search needs) (λ c κs. search needs)
     analyze-join-requires (λ c κs. search needs)
     returns)

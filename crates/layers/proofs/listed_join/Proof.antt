@@ -12,7 +12,7 @@ use Rattle.layers.specs.InnerSteps.{causeNumber}
 use Rattle.layers.proofs.listed_join.Statement.{statement}
 use Rattle.layers.proofs.listed_join.Tie as tie
 
-cause-small : (c : JoinCause) → causeNumber c ≤ 8
+cause-small : (c : JoinCause) → causeNumber c ≤ 9
 cause-small Cause.Coincident = omega arith
 cause-small Cause.Met = omega arith
 cause-small Cause.OuterTurn = omega arith
@@ -22,6 +22,7 @@ cause-small Cause.NoMeeting = omega arith
 cause-small Cause.CandidatesMissed = omega arith
 cause-small Cause.ZeroTangent = omega arith
 cause-small Cause.SameDirection = omega arith
+cause-small Cause.OuterPoint = omega arith
 
 rule-small : (r : ArcRule) → ruleNumber r ≤ 4
 rule-small Rule.NoRule = omega arith

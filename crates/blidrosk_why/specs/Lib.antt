@@ -1,2 +1,0 @@
--- What callers in C are handed.
-pub mod Handed
