@@ -1,5 +1,5 @@
 # A packed job, the program's answer to it, and both in words. The files come as operands:
-#     part=job FILE (one line: the count of bytes, then the bytes as hexadecimal digits) part=answer FILE part=origins FILE
+#     part=job FILE (one line: the count of bytes, the bytes as hexadecimal digits, and in the pointed mode the ratio's) part=answer FILE part=origins FILE
 # and before them segment=N, where --why asks for output segment N. The origins are there where --show asks for the table.
 
 part == "job" {
@@ -11,6 +11,7 @@ part == "job" {
     offset = substr($2, 5, 16)
     eps = substr($2, 21, 16)
     source = substr($2, 37)
+    ratio = $3
 }
 
 part == "answer" && FNR == 1 {
@@ -41,6 +42,7 @@ function bad_number(    whose, plane) {
     plane = "x, y and offset lie in ±1000000"
     if (place == v) return out_of_range("the offset is", "it is", offset, plane)
     if (place == v + 1) return out_of_range("ε is", "it is", eps, "ε lies in 1e-9 to 0.01")
+    if (place == v + 2) return out_of_range("the ratio is", "it is", ratio, "a ratio lies in 1 to 10")
     whose = "vertex " place " is"
     if (!within(x_of(place), -1000000, 1000000)) return out_of_range(whose, "x is", x_of(place), plane)
     if (!within(y_of(place), -1000000, 1000000)) return out_of_range(whose, "y is", y_of(place), plane)

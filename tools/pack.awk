@@ -1,4 +1,5 @@
-# A job in text, to the bytes of the packed job as octal escapes. What cannot be read is told with its line.
+# A job in text, to the bytes of the packed job as octal escapes; where it has a ratio, that stands before them. What cannot be read is
+# told with its line.
 
 function fail(why) {
     printf "pack: line %d: %s\n", NR, why > "/dev/stderr"
@@ -22,7 +23,7 @@ function escaped(digits,    i, s) {
     return s
 }
 
-BEGIN { offset = bits("0"); eps = bits("1e-5") }
+BEGIN { setting["offset"] = bits("0"); setting["eps"] = bits("1e-5"); setting["ratio"] = "" }
 
 { sub(/\r$/, "") }
 
@@ -38,11 +39,10 @@ $1 == "open" || $1 == "closed" {
     next
 }
 
-$1 == "offset" || $1 == "eps" {
+$1 == "offset" || $1 == "eps" || $1 == "ratio" {
     if (NF != 2) fail("'" $1 "' takes one number")
     once($1)
-    if ($1 == "offset") offset = number($2)
-    else eps = number($2)
+    setting[$1] = number($2)
     next
 }
 
@@ -62,5 +62,5 @@ END {
         print "pack: the text has no line of a job" > "/dev/stderr"
         exit 2
     }
-    print escaped(sprintf("%04x", ("closed" in given) * 32768 + vertices) offset eps) source
+    print escaped(setting["ratio"] sprintf("%04x", ("closed" in given) * 32768 + vertices) setting["offset"] setting["eps"]) source
 }

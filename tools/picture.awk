@@ -254,7 +254,7 @@ END {
     take_answer()
     if (drawable) measure()
     say("", "offset " decimal(offset) (decimal(offset) ~ /^-?(0|nan)$/ ? "" : decimal(offset) ~ /^-/ ? " (to the right)" : " (to the left)") \
-        ", ε " decimal(eps) "; the source is " (closed ? "closed" : "open") " and has " v (v == 1 ? " vertex" : " vertices"))
+        ", ε " decimal(eps) (ratio == "" ? "" : ", ratio " decimal(ratio)) "; the source is " (closed ? "closed" : "open") " and has " v (v == 1 ? " vertex" : " vertices"))
     if (number == 0) say(has_invalid() ? " fill=\"#c62828\"" : " fill=\"#1565c0\"", "answer: " count())
     else say(" fill=\"#c62828\"", "refused, number " number ": " refusal())
     if (!drawable) say("", v == 0 ? "there is nothing to draw" : "its numbers cannot be drawn")

@@ -37,6 +37,7 @@ function why() {
     if (reason == 10) return "bridges a gap: one of " both() ", or its offset, is so small that it has no direction there, " within_eps()
     if (reason == 11) return "bridges a gap: " both() " run in the same direction there, and yet their offsets do not touch, " within_eps()
     if (reason == 12) return "is copied as it is, since the offset is 0"
+    if (reason == 13) return "is a side of a pointed corner: two lines lead from one offset to the next, by the point where both offsets, carried on, meet"
     return "has a reason that is not known here"
 }
 

@@ -161,10 +161,10 @@ module _ (count : ℕ) (origins : List Origin) (l₀ : List ℕ) where
 -- ---- what is printed
 
 module _ (count : ℕ) (text : List ℕ) where
-  pub printed-text : count ≤ 1024 → text ≡ printed count text
+  pub printed-text : count ≤ 1536 → text ≡ printed count text
   unfolding printed
   printed-text h = yes _ _ _ (le-leb _ _ h) refl
 
-  pub printed-none : 1024 < count → [] ≡ printed count text
+  pub printed-none : 1536 < count → [] ≡ printed count text
   unfolding printed
   printed-none h = no _ _ _ (lt-leb _ _ h) refl

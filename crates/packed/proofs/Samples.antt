@@ -9,8 +9,10 @@ use Rattle.floats.specs.Choice.{when_give_else_, _and_}
 use Rattle.moves.specs.declared.Origin.{Origin}
 use Rattle.moves.specs.declared.Origin.the-variants.{Span, Connector}
 use Rattle.words.specs.Words.{bigEndian, numberAt}
-use Rattle.packed.specs.declared.unpacked.Packed.the-variants.{Job}
-use Rattle.packed.specs.Packed.{headerOf, closedOf, zeroOf, countOf, offsetOf, epsOf, numbersOf, sourceOf, wellFormed, packedOf, decoded, decodedOf}
+use Rattle.segments.specs.Modes.{roundBy, pointedBy}
+use Rattle.packed.specs.declared.unpacked.Form.the-variants.{Round, Pointed, Either}
+use Rattle.packed.specs.declared.unpacked.Packed.the-variants.{Job, Malformed}
+use Rattle.packed.specs.Packed.{headerOf, closedOf, zeroOf, countOf, offsetOf, epsOf, numbersOf, sourceOf, wellFormed, packedOf, decoded, decodedBy, jobIn, cornersIn, decodedOf}
 use Rattle.packed.specs.Text.{ascii, placesOf, decimalOf, hexOf, refusalOf, headOf, markOf, lineOf, lineAt, linesOf, textOf, printed, printedOf, originLine, originLines, originsText, threeOf, pairOf, toldOf}
 
 -- all that the samples look through
@@ -19,7 +21,7 @@ unfolding when_give_else_ _and_ toBits placesOf decimalOf hexOf refusalOf headOf
 texts = tt
 
 unfoldable pub opened : Unit {0}
-unfolding texts ofBits bigEndian numberAt headerOf closedOf zeroOf countOf offsetOf epsOf numbersOf sourceOf wellFormed packedOf decodedOf
+unfolding texts ofBits bigEndian numberAt headerOf closedOf zeroOf countOf offsetOf epsOf numbersOf sourceOf wellFormed packedOf decodedBy jobIn cornersIn
 opened = tt
 
 abbrev pub numbers : List ℕ → List Float
@@ -69,7 +71,7 @@ pub nothing : printedOf 0 false corners [] ≡ ascii "0 0 open\n"
 unfolding opened
 nothing = refl
 
-pub heads : headOf 9 false ∷ headOf 10 true ∷ headOf 1024 true ∷ [] ≡ ascii "0 9 open\n" ∷ ascii "0 10 closed\n" ∷ ascii "0 1024 closed\n" ∷ []
+pub heads : headOf 9 false ∷ headOf 10 true ∷ headOf 1536 true ∷ [] ≡ ascii "0 9 open\n" ∷ ascii "0 10 closed\n" ∷ ascii "0 1536 closed\n" ∷ []
 unfolding opened
 heads = refl
 
@@ -117,11 +119,34 @@ word a b = a ∷ b ∷ replicate 6 0
 abbrev pub vertex : List ℕ
 vertex = 0x80 ∷ 0x01 ∷ word 0x3f 0xf0 ++ word 0x40 0x00 ++ word 0x40 0x10 ++ word 0x00 0x00 ++ word 0xff 0xff
 
-pub one-vertex :
-    decodedOf vertex (numbers (one ∷ one ∷ one ∷ one ∷ []))
-    ≡ decoded (Job true 1 (ofBits binary64 one) (ofBits binary64 two)) (numbers (four ∷ 0 ∷ nan ∷ one ∷ []))
+abbrev before : List Float
+before = numbers (one ∷ one ∷ one ∷ one ∷ [])
+
+abbrev after : List Float
+after = numbers (four ∷ 0 ∷ nan ∷ one ∷ [])
+
+pub one-vertex : decodedOf Round vertex before ≡ decoded (Job true 1 (roundBy (ofBits binary64 one) (ofBits binary64 two))) after
 unfolding opened
 one-vertex = refl
+
+-- 02's 2026-13: with the ratio 4 before it; either form where either may come; neither where the other is asked for; and a ratio cut short
+pub one-vertex-pointed :
+    decodedOf Pointed (word 0x40 0x10 ++ vertex) before
+    ∷ decodedOf Either (word 0x40 0x10 ++ vertex) before
+    ∷ decodedOf Either vertex before
+    ∷ decodedOf Pointed vertex before
+    ∷ decodedOf Round (word 0x40 0x10 ++ vertex) before
+    ∷ decodedOf Pointed (replicate 7 0) before
+    ∷ []
+    ≡ decoded (Job true 1 (pointedBy (ofBits binary64 one) (ofBits binary64 two) (ofBits binary64 four))) after
+    ∷ decoded (Job true 1 (pointedBy (ofBits binary64 one) (ofBits binary64 two) (ofBits binary64 four))) after
+    ∷ decoded (Job true 1 (roundBy (ofBits binary64 one) (ofBits binary64 two))) after
+    ∷ decoded Malformed before
+    ∷ decoded Malformed before
+    ∷ decoded Malformed before
+    ∷ []
+unfolding opened
+one-vertex-pointed = refl
 
 -- a job of v vertices by its first two bytes and its size
 abbrev pub sized : ℕ → ℕ → ℕ → Bool

@@ -73,9 +73,9 @@ linesOf count closed vertices flags (suc k) = linesOf count closed vertices flag
 unfoldable pub textOf : ℕ → Bool → List Float → List ℕ → List ℕ
 textOf count closed vertices flags = headOf count closed ++ linesOf count closed vertices flags count
 
--- 512 closed vertices are offset to 1024 at most: of more than that nothing is printed
+-- 512 closed vertices are offset to 1536 at most, and to 1024 in the round mode: of more than 1536 nothing is printed
 unfoldable pub printed : ℕ → List ℕ → List ℕ
-printed count text = when leb count 1024 give text else []
+printed count text = when leb count 1536 give text else []
 
 abbrev pub printedOf : ℕ → Bool → List Float → List ℕ → List ℕ
 printedOf count closed vertices flags = printed count (textOf count closed vertices flags)

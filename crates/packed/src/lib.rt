@@ -7,5 +7,6 @@ pub use text::put_answer;
 pub use text::put_origins;
 pub use text::put_refusal;
 pub use text::put_told;
+pub use unpacked::Form;
 pub use unpacked::Packed;
 pub use unpacked::decode;

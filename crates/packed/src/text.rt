@@ -1,4 +1,4 @@
-// The text of an answer, into a lent buffer that has room for the longest: 1024 vertices. `Counts` is there for whoever
+// The text of an answer, into a lent buffer that has room for the longest: 1536 vertices. `Counts` is there for whoever
 // writes the text out: with it `&out[..n]` is known to be in range.
 ghost use mathlib.Core.Path.{_≡_};
 ghost use mathlib.Core.List.{[], _∷_, _++_};
@@ -14,7 +14,7 @@ ghost use Rattle.packed.specs.Text.{_then_, decimalOf, hexOf, lineEnd, l
 use moves::Origin;
 
 // A refusal: its number and its place. Answers the length of the text.
-pub fn put_refusal(number: u32, place: u32, out: &mut [u8; 65536]) -> usize
+pub fn put_refusal(number: u32, place: u32, out: &mut [u8; 98304]) -> usize
     ensures { λ r. ⌜ Counts r (now (out .exit)) ⌝ }
     ensures { λ r. ⌜ r ≡ length (refusalOf number place) ⌝ }
     ensures { λ r. ⌜ now (out .exit) ≡ refusalOf number place ++ drop r (now (out .entry)) ⌝ }
@@ -34,7 +34,7 @@ pub fn put_told(
     end_rule: u32,
     start_param: f64,
     end_param: f64,
-    out: &mut [u8; 65536],
+    out: &mut [u8; 98304],
 ) -> usize
     ensures { λ r. ⌜ Counts r (now (out .exit)) ⌝ }
     ensures { λ r. ⌜ r ≡ length (toldOf number place connector source reason «start_rule» «end_rule» «start_param» «end_param») ⌝ }
@@ -73,15 +73,15 @@ fn put_pair(a: f64, b: f64, out: &mut [u8], at: usize)
 pub fn put_answer(
     count: usize,
     closed: bool,
-    vertices: &[f64; 3072],
-    flags: &[u8; 1024],
-    out: &mut [u8; 65536],
+    vertices: &[f64; 4608],
+    flags: &[u8; 1536],
+    out: &mut [u8; 98304],
 ) -> usize
     ensures { λ r. ⌜ Counts r (now (out .exit)) ⌝ }
     ensures { λ r. ⌜ r ≡ length (printedOf count closed (now (vertices .entry)) (now (flags .entry))) ⌝ }
     ensures { λ r. ⌜ now (out .exit) ≡ printedOf count closed (now (vertices .entry)) (now (flags .entry)) ++ drop r (now (out .entry)) ⌝ }
 {
-    if count > 1024 {
+    if count > 1536 {
         return 0;
     }
     let at = put_head(count as u64, closed, out);
@@ -175,12 +175,12 @@ fn put_mark(mark: u8, out: &mut [u8], at: usize)
 
 // The origins of the output segments: a line for their count, and a line for each. Answers the length of the text: 0,
 // with nothing written, where there are more segments than a packed job's answer can have.
-pub fn put_origins(count: usize, origins: &[u32; 1024], out: &mut [u8; 65536]) -> usize
+pub fn put_origins(count: usize, origins: &[u32; 1536], out: &mut [u8; 98304]) -> usize
     ensures { λ r. ⌜ Counts r (now (out .exit)) ⌝ }
     ensures { λ r. ⌜ r ≡ length (printed count (originsText count (originsIn (now (origins .entry))))) ⌝ }
     ensures { λ r. ⌜ now (out .exit) ≡ printed count (originsText count (originsIn (now (origins .entry)))) ++ drop r (now (out .entry)) ⌝ }
 {
-    if count > 1024 {
+    if count > 1536 {
         return 0;
     }
     let done = put_decimal(0, b' ', out, 0);

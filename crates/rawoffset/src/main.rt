@@ -5,10 +5,13 @@
 // crates/reply/proofs/Never.antt).
 const MOST_READ: usize = 12307;
 
+// Room for the longest answer.
+const MOST_WRITTEN: usize = 98304;
+
 fn main() {
     let mut bytes = [0u8; MOST_READ];
     let n = io::read_full(0, &mut bytes);
-    let mut text = io::large_buffer();
+    let mut text = [0u8; MOST_WRITTEN];
     let m = reply::reply(&bytes[..n], &mut text);
     let _written = io::write_all(1, &text[..m]);
 }

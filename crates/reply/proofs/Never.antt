@@ -1,41 +1,39 @@
--- Which numbers `rawoffset` and `raworigins` can print. A packed job has three numbers a vertex, at most 512 vertices, and room for all that they draw: Nos. 1, 2 and 4 never come, as
--- answers (`never`) or as texts (`never-printed`). And both programs may stop reading after 12307 bytes (`cut`). Assumes nothing.
-use mathlib.Core.Path.{_≡_, refl, sym, ap, _∙_}
+-- Which numbers `rawoffset`, `rawpointed` and `raworigins` can print. A packed job has three numbers a vertex, at most 512 vertices, and room for all that they draw: Nos. 1, 2 and 4 never come, as
+-- answers (`never`) or as texts (`never-printed`). And each program may stop reading a byte after the largest job that it takes (`cut`). Assumes nothing.
+use mathlib.Core.Path.{_≡_, refl, sym, _∙_}
 use mathlib.Core.Bool.{Bool, true, false}
 use mathlib.Core.List.{List}
 use Prim.Native.Char.{code}
-use Prim.Native.Nat.{ℕ, _+_, _*_, _/_, _≤_, _<_}
+use Prim.Native.Nat.{ℕ, _+_, _*_, _≤_, _<_}
 use native.Mathlib.Omega.{arith}
-use borrow.Author.Tests.{leb-true, leb-false}
-use lib.Dec.{leb}
 use lib.ListN.{length, getD, take, replicate}
-use lib.Seq.{take-all, length-take-le}
 use Rattle.floats.specs.Choice.{when_give_else_}
 use Rattle.floats.proofs.Choice.{no}
+use Rattle.segments.specs.declared.Corners.{Corners}
 use Rattle.refusals.specs.declared.Refusal.the-variants.{Ragged, TooMany, BadNumber, NoRoom, Repeated, NotFinite, Malformed, NoSuchSegment, NoSuchSourceSegment}
-use Rattle.refusals.proofs.First.{by-test}
-use Rattle.source.proofs.Segments.{segments-most}
+use Rattle.refusals.specs.Table.{numberOf, placeOf}
 use Rattle.moves.specs.declared.RawOffsetResult.{RawOffsetResult}
 use Rattle.moves.proofs.Origins.{origins-length}
 use Rattle.sheet.specs.Buffers.{Buffers}
 use Rattle.job.specs.declared.RawOffsetAnswer.{RawOffsetAnswer}
 use Rattle.job.specs.declared.RawOffsetAnswer.the-variants.{Done, Refused}
-use Rattle.job.specs.Job.{number, place, ending}
+use Rattle.job.specs.Job.{Outcome, number, ending}
 use Rattle.job.specs.Rows.{Job, outcome, places, Given, Short, vertices, flags, indexes, origins}
 use Rattle.job.proofs.Demand1.{demand-1}
-use Rattle.packed.specs.Packed.{wellFormed, countOf, closedOf, sourceOf}
+use Rattle.packed.specs.declared.unpacked.Form.{Form}
+use Rattle.packed.specs.Packed.{wellFormed, countOf, closedOf, sourceOf, settingsOf, jobIn, cornersIn}
 use Rattle.packed.specs.Text.{placesOf, decimalOf, headOf, refusalOf, textOf, originsText}
-use Rattle.packed.proofs.Bytes.{length-numbers, few, long}
+use Rattle.packed.proofs.Bytes.{length-numbers, few, largest, too-long, cut-by}
 use Rattle.reply.specs.declared.Asked.{Asked}
 use Rattle.reply.specs.declared.Asked.the-variants.{Drawing, Origins}
-use Rattle.reply.specs.Reply.{doneText, answerText, settingsOf, outcomeOf, replyBy}
-use Rattle.reply.proofs.Texts.{blankJob}
+use Rattle.reply.specs.Reply.{doneText, answerText, outcomeOf, replyBy}
+use Rattle.reply.proofs.Texts.{blankJob, places-most}
 
 -- ---- as answers
 
-module _ (bytes : List ℕ) (well : wellFormed bytes ≡ true) where
+module _ (corners : Corners) (bytes : List ℕ) (well : wellFormed bytes ≡ true) where
   abbrev job : Job
-  job = blankJob (sourceOf bytes) (closedOf bytes) (settingsOf bytes)
+  job = blankJob (sourceOf bytes) (closedOf bytes) (settingsOf corners bytes)
 
   numbers : length (sourceOf bytes) ≡ 3 * countOf bytes
   unfolding sourceOf
@@ -45,16 +43,16 @@ module _ (bytes : List ℕ) (well : wellFormed bytes ≡ true) where
   given : (n : ℕ) → (n ≡ 3 → ⊥) → (n ≡ 5 → ⊥) → number (outcome job .answer) ≡ n → Given job n 0
   given n p q e = record { number = e; place = demand-1 job .placeless (λ z. p (sym e ∙ z)) (λ z. q (sym e ∙ z)) }
 
-  roomy : places job ≤ 1024
-  roomy = let m = segments-most (closedOf bytes) (length (sourceOf bytes) / 3) in omega (arith, numbers, few bytes well)
+  roomy : places job ≤ 1536
+  roomy = omega (arith, places-most job, numbers, few bytes well)
 
   never-short : Short job → ⊥
   never-short (vertices h) = omega (arith, roomy)
   never-short (flags h) = omega (arith, roomy)
   never-short (indexes h) = omega (arith, roomy)
-  never-short (origins h) = omega (arith, roomy, origins-length (replicate 1024 0))
+  never-short (origins h) = omega (arith, roomy, origins-length (replicate 1536 0))
 
-  pub never : (number (outcomeOf bytes .answer) ≡ 1 → ⊥) × (number (outcomeOf bytes .answer) ≡ 2 → ⊥) × (number (outcomeOf bytes .answer) ≡ 4 → ⊥)
+  pub never : (number (outcomeOf corners bytes .answer) ≡ 1 → ⊥) × (number (outcomeOf corners bytes .answer) ≡ 2 → ⊥) × (number (outcomeOf corners bytes .answer) ≡ 4 → ⊥)
   unfolding outcomeOf
   never = (
     λ e. demand-1 job .one .0 (given 1 (λ z. omega arith) (λ z. omega arith) e) (omega (arith, numbers)),
@@ -63,7 +61,7 @@ module _ (bytes : List ℕ) (well : wellFormed bytes ≡ true) where
   )
 
   -- a job's number has one digit
-  job-number : number (outcomeOf bytes .answer) ≤ 6
+  job-number : number (outcomeOf corners bytes .answer) ≤ 6
   unfolding outcomeOf
   job-number = demand-1 job .only
 
@@ -89,31 +87,35 @@ module _ (asked : Asked) where
   digit (Refused NoSuchSegment) b h = refl
   digit (Refused NoSuchSourceSegment) b h = absurd (omega arith)
 
-  abbrev pub firstByte : List ℕ → ℕ
-  firstByte bytes = getD (replyBy asked bytes) 0 0
+  module _ (form : Form) (bytes : List ℕ) where
+    abbrev pub firstByte : ℕ
+    firstByte = getD (replyBy asked form bytes) 0 0
 
-  first : (bytes : List ℕ) (well : Bool) → wellFormed bytes ≡ well → (n : ℕ) → n < 7 → (wellFormed bytes ≡ true → number (outcomeOf bytes .answer) ≡ n → ⊥) → firstByte bytes ≡ code "0" + n → ⊥
-  unfolding replyBy when_give_else_ refusalOf decimalOf placesOf
-  first bytes true w n s never e =
-      let d = digit (outcomeOf bytes .answer) (outcomeOf bytes .buffers) (job-number bytes w) in
-      let f = rw w at e in
-      never w (omega arith)
-  first bytes false w n s never e = let f = rw w at e in omega arith
+    abbrev ended : Outcome
+    ended = outcomeOf (cornersIn form bytes) (jobIn form bytes)
 
-  pub never-printed : (bytes : List ℕ) → (firstByte bytes ≡ code "1" → ⊥) × (firstByte bytes ≡ code "2" → ⊥) × (firstByte bytes ≡ code "4" → ⊥)
-  never-printed bytes = (
-    first bytes _ refl 1 (omega arith) (λ w. never bytes w .0),
-    first bytes _ refl 2 (omega arith) (λ w. never bytes w .1),
-    first bytes _ refl 4 (omega arith) (λ w. never bytes w .2),
-  )
+    first : (well : Bool) → wellFormed (jobIn form bytes) ≡ well → (n : ℕ) → n < 7 → (wellFormed (jobIn form bytes) ≡ true → number (ended .answer) ≡ n → ⊥) → firstByte ≡ code "0" + n → ⊥
+    unfolding replyBy when_give_else_ refusalOf decimalOf placesOf
+    first true w n s never e =
+        let d = digit (ended .answer) (ended .buffers) (job-number (cornersIn form bytes) (jobIn form bytes) w) in
+        let f = rw w at e in
+        never w (omega arith)
+    first false w n s never e = let f = rw w at e in omega arith
+
+    pub never-printed : (firstByte ≡ code "1" → ⊥) × (firstByte ≡ code "2" → ⊥) × (firstByte ≡ code "4" → ⊥)
+    never-printed = (
+      first _ refl 1 (omega arith) (λ w. never (cornersIn form bytes) (jobIn form bytes) w .0),
+      first _ refl 2 (omega arith) (λ w. never (cornersIn form bytes) (jobIn form bytes) w .1),
+      first _ refl 4 (omega arith) (λ w. never (cornersIn form bytes) (jobIn form bytes) w .2),
+    )
 
 -- ---- where the programs stop reading
 
-pub cut : (asked : Asked) (bytes : List ℕ) → replyBy asked (take 12307 bytes) ≡ replyBy asked bytes
-unfolding replyBy
-cut asked bytes =
-    by-test (leb (length bytes) 12307) (λ (e : leb (length bytes) 12307 ≡ true). ap (replyBy asked) (take-all 12307 bytes (leb-true _ _ e)))
-    (λ (e : leb (length bytes) 12307 ≡ false).
-    let h = leb-false (length bytes) 12307 e in
-    let n = length-take-le 12307 bytes (omega arith) in
-    sym (no _ _ _ (long (take 12307 bytes) (omega arith)) refl) ∙ no _ _ _ (long bytes (omega arith)) refl)
+-- a byte more than the largest job is enough to refuse what is longer: 12307 bytes, and 12315 where a ratio may come
+module _ (asked : Asked) (form : Form) where
+  none : (bytes : List ℕ) → largest form < length bytes → replyBy asked form bytes ≡ refusalOf (numberOf Malformed) (placeOf Malformed)
+  unfolding replyBy
+  none bytes h = sym (no _ _ _ (too-long bytes form h) refl)
+
+  pub cut : (bytes : List ℕ) → replyBy asked form (take (largest form + 1) bytes) ≡ replyBy asked form bytes
+  cut bytes = cut-by (largest form) (replyBy asked form) (refusalOf (numberOf Malformed) (placeOf Malformed)) none bytes

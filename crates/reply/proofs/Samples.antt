@@ -1,4 +1,4 @@
--- Samples, by computation of the definitions: 01 §5's program on the bytes of the sixth row, and a job for each number that it can refuse by, but No. 6. Assumes nothing.
+-- Samples, by computation of the definitions: 01 §5's program on the bytes of the sixth row, a pointed corner, and a job for each number that it can refuse by, but No. 6. Assumes nothing.
 use mathlib.Core.Path.{_≡_, refl}
 use mathlib.Core.List.{List, [], _∷_, _++_}
 use Prim.Native.Nat.{ℕ}
@@ -8,7 +8,7 @@ use Rattle.job.proofs.PRows as Rows
 use Rattle.packed.specs.Text.{ascii}
 use Rattle.packed.proofs.Samples as Packed
 use Rattle.packed.proofs.Samples.{word, sixthText}
-use Rattle.reply.specs.Reply.{doneText, answerText, outcomeOf, replyBy, replyOf, originsReplyOf}
+use Rattle.reply.specs.Reply.{doneText, answerText, outcomeOf, replyBy, replyOf, pointedReplyOf, originsReplyOf}
 
 -- all that the samples look through
 unfoldable opened : Unit {0}
@@ -49,6 +49,37 @@ pub origins :
     ≡ ascii "0 3\nspan 0\nconnector 0\nspan 1\n" ∷ ascii "0 4\nspan 0\nconnector 0\nspan 1\nconnector 1\n" ∷ ascii "3 2\n" ∷ []
 unfolding opened
 origins = refl
+
+-- 02's 2026-13: (0,0)(10,0)(17,-24) at offset 25 and ratio 1.25, where both sides of the test are 976.5625, and its origins
+abbrev tip : List ℕ
+tip = word 0x3f 0xf4 ++ packedJob 0 3 (word 0x40 0x39) (nought ++ nought ++ nought ++ word 0x40 0x24 ++ nought ++ nought ++ word 0x40 0x31 ++ word 0xc0 0x38 ++ nought)
+
+pub pointed :
+    pointedReplyOf tip ∷ originsReplyOf tip ∷ []
+    ≡ (ascii "0 5 open\n"
+    ++ ascii "0000000000000000 4039000000000000 0000000000000000 .\n"
+    ++ ascii "4024000000000000 4039000000000000 0000000000000000 .\n"
+    ++ ascii "403cc00000000000 4039000000000000 0000000000000000 .\n"
+    ++ ascii "4041000000000000 401c000000000001 0000000000000000 .\n"
+    ++ ascii "4044800000000000 c031000000000000 0000000000000000 -\n")
+    ∷ ascii "0 4\nspan 0\nconnector 0\nconnector 0\nspan 1\n"
+    ∷ []
+unfolding opened
+pointed = refl
+
+-- no vertex and the ratio a NaN, 1 or under 1: No. 3 at place v + 2; and no job: a packed job with no ratio, and a ratio with none or cut short
+pub pointed-refusals :
+    pointedReplyOf (word 0x7f 0xf8 ++ packedJob 0 0 one [])
+    ∷ pointedReplyOf (one ++ packedJob 0 0 one [])
+    ∷ pointedReplyOf (word 0x3f 0xe0 ++ packedJob 0 0 one [])
+    ∷ pointedReplyOf (packedJob 0 2 one line)
+    ∷ pointedReplyOf one
+    ∷ pointedReplyOf (replicate 7 0)
+    ∷ replyOf tip
+    ∷ []
+    ≡ ascii "3 2\n" ∷ ascii "0 0 open\n" ∷ ascii "3 2\n" ∷ ascii "7 0\n" ∷ ascii "7 0\n" ∷ ascii "7 0\n" ∷ ascii "7 0\n" ∷ []
+unfolding opened
+pointed-refusals = refl
 
 -- No. 3 at the second vertex, and at the offset; No. 5 at the second vertex; and no job: a byte more, a zero bit, 513 vertices, nothing at all
 pub refusals :

@@ -12,11 +12,14 @@ use Rattle.floats.proofs.Choice.{yes, no}
 use Rattle.words.specs.Words.{bigEndian}
 use Rattle.refusals.specs.declared.Refusal.the-variants as Refusal
 use Rattle.refusals.specs.Table.{numberOf, placeOf}
+use Rattle.segments.specs.declared.Corners.{Corners}
+use Rattle.segments.specs.declared.Settings.{Settings}
+use Rattle.packed.specs.declared.unpacked.Form.the-variants.{Either}
 use Rattle.packed.specs.declared.unpacked.Packed.{Packed}
 use Rattle.packed.specs.declared.unpacked.Packed.the-variants.{Job, Malformed}
-use Rattle.packed.specs.Packed.{wellFormed, decoded, decodedOf}
+use Rattle.packed.specs.Packed.{wellFormed, decoded, jobIn, cornersIn, decodedOf}
 use Rattle.packed.specs.Text.{refusalOf, toldOf}
-use Rattle.packed.proofs.Bytes.{short, decoded-none, decoded-well, decoded-parts, decoded-numbers}
+use Rattle.packed.proofs.Bytes.{too-short, decoded-none, decoded-well, decoded-parts, decoded-numbers}
 use Rattle.why.specs.declared.WhyNumbers.{WhyNumbers}
 use Rattle.why.specs.declared.WhyAnswer.{WhyAnswer}
 use Rattle.why.specs.Why.{whyOf, numbersOf}
@@ -26,14 +29,14 @@ abbrev pub malformedText : List ℕ
 malformedText = refusalOf (numberOf Refusal.Malformed) (placeOf Refusal.Malformed)
 
 -- no job, whatever is asked
-pub none : (job : List ℕ) (k : ℕ) → wellFormed job ≡ false → packedReply job k ≡ malformedText
+pub none : (bytes : List ℕ) (k : ℕ) → wellFormed (jobIn Either bytes) ≡ false → packedReply bytes k ≡ malformedText
 unfolding packedReply
-none job k w = sym (no _ _ _ w refl)
+none bytes k w = sym (no _ _ _ w refl)
 
 -- four bytes are not there, and so no job
 pub cut-short : (bytes : List ℕ) → length bytes < 4 → whyReplyOf bytes ≡ malformedText
 unfolding whyReplyOf
-cut-short bytes h = none (drop 4 bytes) (bigEndian bytes 0 4) (sym (short (drop 4 bytes) (omega (arith, length-drop 4 bytes))))
+cut-short bytes h = none (drop 4 bytes) (bigEndian bytes 0 4) (too-short (drop 4 bytes) Either (omega (arith, length-drop 4 bytes)))
 
 -- the code's part of the bytes, and its number
 pub asked : (bytes : List ℕ) {k : ℕ} → k ≡ bigEndian bytes 0 4 → whyReplyOf bytes ≡ packedReply (take (length bytes - 4) (drop 4 bytes)) k
@@ -44,16 +47,22 @@ asked bytes e =
 
 -- ---- after `decode`
 
-module _ (job : List ℕ) (old : List Float) {p : Packed} {s : List Float} (e : decoded p s ≡ decodedOf job old) (k : ℕ) where
-  pub refused : p ≡ Malformed → packedReply job k ≡ malformedText
-  refused m = none job k (decoded-none job old e m)
+module _ (bytes : List ℕ) (old : List Float) {p : Packed} {s : List Float} (e : decoded p s ≡ decodedOf Either bytes old) (k : ℕ) where
+  abbrev job : List ℕ
+  job = jobIn Either bytes
 
-  pub worked : {closed : Bool} {v : ℕ} {offset ε : Float} → p ≡ Job closed v offset ε
-      → packedReply job k ≡ tellingText (numbersOf (whyOf (take (3 * v) s) closed (record { offset = offset; eps = ε }) k))
+  abbrev corners : Corners
+  corners = cornersIn Either bytes
+
+  pub refused : p ≡ Malformed → packedReply bytes k ≡ malformedText
+  refused m = none bytes k (decoded-none job corners old e m)
+
+  pub worked : {closed : Bool} {v : ℕ} {σ : Settings} → p ≡ Job closed v σ
+      → packedReply bytes k ≡ tellingText (numbersOf (whyOf (take (3 * v) s) closed σ k))
   unfolding packedReply packedAnswer
   worked j =
-      let is = decoded-parts job old e j in
-      sym (yes _ _ _ (decoded-well job old e j) (rw (decoded-numbers job old e j, is .0, is .1 .1 .0, is .1 .1 .1)))
+      let is = decoded-parts job corners old e j in
+      sym (yes _ _ _ (decoded-well job corners old e j) (rw (decoded-numbers job corners old e j, is .0, is .1 .1)))
 
 -- ---- the texts
 

@@ -1,5 +1,5 @@
 // The whole way of `rawwhy`: from the bytes of a question, the number of an output segment and a packed
-// job, to the bytes of its answer. The program itself only reads the ones and writes the others.
+// job, round or pointed, to the bytes of its answer. The program itself only reads the ones and writes the others.
 ghost use mathlib.Core.Path.{_≡_};
 ghost use mathlib.Core.List.{_++_};
 ghost use Prim.Native.Nat.{_≤_};
@@ -11,13 +11,14 @@ ghost use Rattle.refusals.specs.Table.{numberOf, placeOf};
 ghost use Rattle.packed.specs.Text.{refusalOf};
 ghost use Rattle.why.specs.Why.{whyOf, numbersOf};
 ghost use Rattle.why_reply.specs.WhyReply.{tellingText, packedReply, whyReplyOf};
+use packed::Form;
 use packed::Packed;
 use refusals::Refusal;
 use segments::OutputSegment;
 use segments::Settings;
 
 // The answer to a question, at the start of `text`. Answers its length.
-pub fn reply(bytes: &[u8], text: &mut [u8; 65536]) -> usize
+pub fn reply(bytes: &[u8], text: &mut [u8; 98304]) -> usize
     ensures { λ r. ⌜ Counts r (now (text .exit)) ⌝ }
     ensures { λ r. ⌜ r ≡ length (whyReplyOf (now (bytes .entry))) ⌝ }
     ensures { λ r. ⌜ now (text .exit) ≡ whyReplyOf (now (bytes .entry)) ++ drop r (now (text .entry)) ⌝ }
@@ -38,7 +39,7 @@ fn segment_of(bytes: &[u8]) -> OutputSegment
 }
 
 // What is no packed job is refused.
-fn put_malformed(text: &mut [u8; 65536]) -> usize
+fn put_malformed(text: &mut [u8; 98304]) -> usize
     ensures { λ r. ⌜ Counts r (now (text .exit)) ⌝ }
     ensures { λ r. ⌜ r ≡ length (refusalOf (numberOf Malformed) (placeOf Malformed)) ⌝ }
     ensures { λ r. ⌜ now (text .exit) ≡ refusalOf (numberOf Malformed) (placeOf Malformed) ++ drop r (now (text .entry)) ⌝ }
@@ -48,27 +49,20 @@ fn put_malformed(text: &mut [u8; 65536]) -> usize
 }
 
 // The answer about one output segment of a packed job.
-fn reply_about(job: &[u8], segment: OutputSegment, text: &mut [u8; 65536]) -> usize
+fn reply_about(job: &[u8], segment: OutputSegment, text: &mut [u8; 98304]) -> usize
     ensures { λ r. ⌜ Counts r (now (text .exit)) ⌝ }
     ensures { λ r. ⌜ r ≡ length (packedReply (now (job .entry)) (segment .0)) ⌝ }
     ensures { λ r. ⌜ now (text .exit) ≡ packedReply (now (job .entry)) (segment .0) ++ drop r (now (text .entry)) ⌝ }
 {
     let mut source = [0.0; 1536];
-    let decoded = packed::decode(job, &mut source);
+    let decoded = packed::decode(Form::Either, job, &mut source);
     match decoded {
         Packed::Malformed => put_malformed(text),
         Packed::Job {
             closed,
             vertices,
-            offset,
-            eps,
-        } => tell(
-            &source[..3 * vertices],
-            closed,
-            Settings { offset, eps },
-            segment,
-            text,
-        ),
+            settings,
+        } => tell(&source[..3 * vertices], closed, settings, segment, text),
     }
 }
 
@@ -78,7 +72,7 @@ fn tell(
     closed: bool,
     settings: Settings,
     segment: OutputSegment,
-    text: &mut [u8; 65536],
+    text: &mut [u8; 98304],
 ) -> usize
     ensures { λ r. ⌜ Counts r (now (text .exit)) ⌝ }
     ensures { λ r. ⌜ r ≡ length (tellingText (numbersOf (whyOf (now (source .entry)) closed settings (segment .0)))) ⌝ }

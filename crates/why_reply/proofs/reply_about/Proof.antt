@@ -9,10 +9,10 @@ use Rattle.why_reply.proofs.reply_about.Statement.{statement}
 use Rattle.why_reply.proofs.reply_about.Tie as tie
 
 mul-source : tie.Need-mul-source
-mul-source c = omega (arith, decoded-room _ _ (c .before .before .before .decode .ensures) (c .before .decoded .given .1))
+mul-source c = omega (arith, decoded-room _ _ _ (c .before .before .before .decode .ensures) (c .before .decoded .given .1))
 
 array-share-prefix-source : tie.Need-array-share-prefix-source
-array-share-prefix-source c = omega (arith, decoded-room _ _ (c .before .before .before .decode .ensures) (c .before .decoded .given .1))
+array-share-prefix-source c = omega (arith, decoded-room _ _ _ (c .before .before .before .decode .ensures) (c .before .decoded .given .1))
 
 slice-aggregate-tell : tie.Need-slice-aggregate-tell
 slice-aggregate-tell c = sym (length-take-le _ _ (array-share-prefix-source (c .before)))
