@@ -1,10 +1,12 @@
 // Whole jobs on stored rows, each with all that it leaves in the four lent buffers.
 // The input is words of eight bytes, highest byte first: the count of rows, then the rows. A row is
-// how many numbers the source has, closed, offset, tolerance, and how many numbers, flags, indexes
-// and origins are lent; then the source. The jobs at the limit of vertices are made here. The stored
-// output comes from 000 over 01's arithmetic in Rust (`oracle`, `samples`).
+// how many numbers the source has, its mode (1 for closed, and 2 more for pointed corners), offset,
+// tolerance, of pointed corners the ratio, and how many numbers, flags, indexes and origins are lent;
+// then the source. The jobs at the limit of vertices are made here. The stored output comes from 000
+// over 01's arithmetic in Rust, and for pointed corners from a transcription of 02 (`oracle`, `samples`).
 use job::RawOffsetAnswer;
 use moves::RawOffsetResult;
+use segments::Corners;
 use segments::Settings;
 use words::least;
 use words::print;
@@ -140,6 +142,42 @@ fn print_outcome(
     print(b"\n");
 }
 
+// In the mode of its settings.
+fn offset(
+    source: &[f64],
+    closed: bool,
+    settings: Settings,
+    vertices: &mut [f64],
+    flags: &mut [u8],
+    indexes: &mut [u32],
+    origins: &mut [u32],
+) -> RawOffsetAnswer {
+    let corners = settings.corners;
+    match corners {
+        Corners::Round => job::create_raw_offset(
+            source,
+            closed,
+            settings.offset,
+            settings.eps,
+            vertices,
+            flags,
+            indexes,
+            origins,
+        ),
+        Corners::Pointed { ratio } => job::create_raw_offset_pointed(
+            source,
+            closed,
+            settings.offset,
+            settings.eps,
+            ratio,
+            vertices,
+            flags,
+            indexes,
+            origins,
+        ),
+    }
+}
+
 // Works one job on the first places of the buffers, and prints what all of them hold then.
 fn job(
     lent: Lent,
@@ -156,7 +194,7 @@ fn job(
     let flags_lent = least(lent.flags, flags.len());
     let indexes_lent = least(lent.indexes, indexes.len());
     let origins_lent = least(lent.origins, origins.len());
-    let answer = job::create_raw_offset(
+    let answer = offset(
         &source[..count],
         closed,
         settings,
@@ -168,6 +206,16 @@ fn job(
     print_outcome(answer, vertices, flags, indexes, origins);
 }
 
+// Of pointed corners the ratio is read too.
+fn read_settings(pointed: bool) -> Settings {
+    let offset = read_number();
+    let eps = read_number();
+    if pointed {
+        return Settings::pointed(offset, eps, read_number());
+    }
+    Settings::round(offset, eps)
+}
+
 // A stored row: at most 42 vertices.
 fn row() {
     let mut source = [0.0; 128];
@@ -176,11 +224,9 @@ fn row() {
     let mut indexes = [INDEX_BEFORE; 88];
     let mut origins = [ORIGIN_BEFORE; 88];
     let count = read_word() as usize;
-    let closed = read_word() == 1;
-    let settings = Settings {
-        offset: read_number(),
-        eps: read_number(),
-    };
+    let mode = read_word();
+    let closed = mode % 2 == 1;
+    let settings = read_settings(mode > 1);
     let lent = Lent {
         source: count,
         numbers: read_word() as usize,
@@ -233,10 +279,7 @@ fn long(numbers: usize, closed: bool) {
         lent,
         &source,
         closed,
-        Settings {
-            offset: 0.125,
-            eps: 1e-5,
-        },
+        Settings::round(0.125, 1e-5),
         &mut vertices,
         &mut flags,
         &mut indexes,

@@ -81,10 +81,7 @@ fn arc(row: &[u8; 192], k: usize) -> SeenArc
 fn settings(row: &[u8; 192], k: usize) -> Settings
     requires { ⌜ k < 23 ⌝ }
 {
-    Settings {
-        offset: number(row, k),
-        eps: number(row, k + 1),
-    }
+    Settings::round(number(row, k), number(row, k + 1))
 }
 
 // A word that is 1.0 or 0.0.

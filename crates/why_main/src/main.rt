@@ -1,6 +1,7 @@
 // What is told of each output segment of stored jobs, of the first number that is none, and of the
 // largest. The input is words of eight bytes, highest byte first: the count of jobs, then for each how
-// many numbers its source has, closed, offset, tolerance, and the source. The stored output comes from
+// many numbers its source has, its mode (1 for closed, and 2 more for pointed corners), offset, tolerance,
+// of pointed corners the ratio, and the source. The stored output comes from
 // the traced job in Rust (`oracle`, `samples`), which says which branch of 000 it took.
 use segments::OutputSegment;
 use segments::Settings;
@@ -47,15 +48,23 @@ fn tell_job(source: &[f64], count: usize, closed: bool, settings: Settings) {
     let _told = tell(&source[..numbers], closed, settings, u32::MAX);
 }
 
+// Of pointed corners the ratio is read too.
+fn read_settings(pointed: bool) -> Settings {
+    let offset = read_number();
+    let eps = read_number();
+    if pointed {
+        return Settings::pointed(offset, eps, read_number());
+    }
+    Settings::round(offset, eps)
+}
+
 // A stored job: at most 42 vertices.
 fn row() {
     let mut source = [0.0; 128];
     let count = read_word() as usize;
-    let closed = read_word() == 1;
-    let settings = Settings {
-        offset: read_number(),
-        eps: read_number(),
-    };
+    let mode = read_word();
+    let closed = mode % 2 == 1;
+    let settings = read_settings(mode > 1);
     words::read_numbers(count, &mut source);
     tell_job(&source, count, closed, settings);
 }
