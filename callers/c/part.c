@@ -6,17 +6,9 @@
  */
 #include <stdio.h>
 
-#include "blidrosk.h"
+#include "modes.h"
 
-enum { ROOM = 16, ENTRIES = 4, GUARDS = 2 };
-
-struct job {
-    const char *name;
-    const double *source;
-    size_t len;
-    bool closed;
-    double offset, eps;
-};
+enum { ROOM = 24, ENTRIES = 4, GUARDS = 2 };
 
 /* What a job has drawn, but for its vertices. */
 struct output {
@@ -100,14 +92,6 @@ static void test_part(const struct lists *lists, uint32_t source_segment, uint32
          "another part was wanted", lists->name, source_segment);
 }
 
-static uint32_t segments_of(const struct job *job)
-{
-    uint32_t vertices = (uint32_t)(job->len / 3);
-    if (vertices < 2)
-        return 0;
-    return job->closed ? vertices : vertices - 1;
-}
-
 /* Offsets a drawing, over places that are not zero. */
 static struct output output_of(const struct job *job)
 {
@@ -119,16 +103,16 @@ static struct output output_of(const struct job *job)
         output.indexes[i] = 0xdeadbeef;
         output.origins[i] = 0xfffffff0 + (uint32_t)i;
     }
-    blidrosk_raw_offset(job->source, job->len, job->closed, job->offset, job->eps, vertices,
-                        3 * ROOM, output.flags, ROOM, output.indexes, ROOM, output.origins, ROOM,
-                        answer);
+    const struct buffers lent = {vertices,       3 * ROOM, output.flags,   ROOM,
+                                 output.indexes, ROOM,     output.origins, ROOM};
+    offset_job(job, &lent, answer);
     test(answer[BLIDROSK_NUMBER] == BLIDROSK_DONE, "the job was refused", job->name, 0);
     output.red = answer[BLIDROSK_INDEXES];
     output.segments = answer[BLIDROSK_VERTICES];
     if (output.segments > 0 && answer[BLIDROSK_CLOSED] == 0)
         output.segments--;
     bool zero = true;
-    for (size_t i = output.segments; i < 2 * output.n; i++)
+    for (size_t i = output.segments; i < room_for(output.n); i++)
         zero = zero && output.origins[i] == 0;
     test(zero, "an origin past the output is not zero", job->name, 0);
     return output;
@@ -206,6 +190,29 @@ static void test_jobs(void)
         {{"a closed copy", twice, 9, true, -0.0, 1e-5}, 3, {0, 2, 4}},
         {{"one vertex", square, 3, true, 1, 1e-5}, 0, {0}},
         {{"no vertex", square, 0, false, 1, 1e-5}, 0, {0}},
+    };
+    for (size_t i = 0; i < sizeof jobs / sizeof *jobs; i++)
+        test_origins(&jobs[i].job, jobs[i].origins, jobs[i].count);
+}
+
+/* Both connectors of a point are of the segment before it: a part has up to three segments. */
+static void test_pointed_jobs(void)
+{
+    const double corner[] = {0, 0, 0, 4, 0, 0, 4, 1, 0};
+    const double square[] = {0, 0, 0, 4, 0, 0, 4, 4, 0, 0, 4, 0};
+    const double flat[] = {0, 0, 0, 4, 0, 0, 8, -0.06, 0};
+    const struct {
+        struct job job;
+        uint32_t count, origins[12];
+    } jobs[] = {
+        {{"a pointed corner", corner, 9, false, -1, 1e-5}, 4, {0, 1, 1, 2}},
+        {{"a corner with a gap", corner, 9, false, 2, 1e-5}, 3, {0, 1, 2}},
+        {{"a pointed square", square, 12, true, -1, 1e-5},
+         12,
+         {0, 1, 1, 2, 3, 3, 4, 5, 5, 6, 7, 7}},
+        {{"a line there and back", square, 6, true, 1, 1e-5}, 4, {0, 1, 2, 3}},
+        {{"half of a point", flat, 9, false, 1, 0.01}, 3, {0, 1, 2}},
+        {{"a closed copy", square, 12, true, 0, 1e-5}, 4, {0, 2, 4, 6}},
     };
     for (size_t i = 0; i < sizeof jobs / sizeof *jobs; i++)
         test_origins(&jobs[i].job, jobs[i].origins, jobs[i].count);
@@ -322,13 +329,21 @@ int main(void)
     const struct job line = {"two lines", two_lines, 9, false, 1, 1e-5};
     struct output drawn = output_of(&line);
     struct lists own = lend(&line, &drawn, drawn.segments);
-    struct lists padded = lend(&line, &drawn, 2 * drawn.n);
+    struct lists padded = lend(&line, &drawn, room_for(drawn.n));
     print_asked(&own, 0, ", too short to draw");
     print_asked(&padded, 0, ", too short to draw, with the zeros past the output");
 
     test_output(&job, &output);
     test_output(&line, &drawn);
     test_jobs();
+
+    corners.pointed = true;
+    corners.ratio = 2;
+    output = output_of(&job);
+    lists = lend(&job, &output, output.segments);
+    print_asked(&lists, 2, ", with a point after it");
+    test_output(&job, &output);
+    test_pointed_jobs();
     test_lists(0);
     test_lists(1);
     test_lists(0xa5);

@@ -1,13 +1,14 @@
 /*
  * Tells of each segment of an offset drawing what it is and why its flag is set or clear. For this
- * and other jobs it tests that the answer goes with the flag and the origin, that blidrosk_why
- * writes all of its answer, and that it changes nothing else.
+ * and other jobs, with round corners and with pointed ones, it tests that the answer goes with the
+ * flag and the origin, that blidrosk_why and blidrosk_why_pointed write all of their answer, and
+ * that they change nothing else.
  */
 #include <stdio.h>
 
-#include "blidrosk.h"
+#include "modes.h"
 
-enum { MOST = 3 * 4097, ROOM = 32, ENTRIES = 7, PARAMS = 2, GUARDS = 2 };
+enum { MOST = 3 * 4097, ROOM = 36, ENTRIES = 7, PARAMS = 2, GUARDS = 2 };
 
 static const char *const REASONS[] = {
     [BLIDROSK_IN_ORDER] = "in order",
@@ -22,6 +23,7 @@ static const char *const REASONS[] = {
     [BLIDROSK_ZERO_TANGENT] = "a gap, a side is too small to have a direction",
     [BLIDROSK_SAME_DIRECTION] = "a gap, both sides run the same way",
     [BLIDROSK_COPIED] = "copied",
+    [BLIDROSK_POINTED] = "by the point of an outer corner",
 };
 
 static const char *const RULES[] = {
@@ -31,15 +33,7 @@ static const char *const RULES[] = {
     [BLIDROSK_PAST_END] = "past the arc's end, within the tolerance",
 };
 
-struct job {
-    const char *name;
-    const double *source;
-    size_t len;
-    bool closed;
-    double offset, eps;
-};
-
-/* What blidrosk_why is lent to write to, with guards past it. */
+/* What a question is lent to write to, with guards past it. */
 struct told {
     uint32_t answer[ENTRIES + GUARDS];
     union {
@@ -59,17 +53,22 @@ static int failed;
 static void test(bool holds, const char *words, const struct job *job, uint32_t segment)
 {
     if (!holds) {
-        printf("%s, segment %u: %s\n", job->name, (unsigned)segment, words);
+        printf("%s, %s, segment %u: %s\n", corners.pointed ? "pointed" : "round", job->name,
+               (unsigned)segment, words);
         failed = 1;
     }
 }
 
-static void lend(const struct job *job)
+/* The job of the source that is lent. */
+static struct job lend(const struct job *job)
 {
+    struct job asked = *job;
     for (size_t i = 0; i < job->len; i++) {
         lent.values[i] = job->source[i];
         kept.values[i] = job->source[i];
     }
+    asked.source = lent.values;
+    return asked;
 }
 
 static bool source_stays(const struct job *job)
@@ -97,9 +96,8 @@ static struct told told_over(uint64_t pattern, const struct job *job, uint32_t s
         told.answer[i] = (uint32_t)pattern;
     for (size_t i = 0; i < PARAMS + GUARDS; i++)
         told.params.bits[i] = pattern;
-    lend(job);
-    uint32_t number = blidrosk_why(lent.values, job->len, job->closed, job->offset, job->eps,
-                                   segment, told.answer, told.params.values);
+    const struct job asked = lend(job);
+    uint32_t number = ask_job(&asked, segment, told.answer, told.params.values);
     test(number == told.answer[BLIDROSK_WHY_NUMBER], "two numbers came back", job, segment);
     test(guards_stay(&told, pattern), "a place past the answer changed", job, segment);
     test(source_stays(job), "the source changed", job, segment);
@@ -135,6 +133,8 @@ static void test_refused(const struct job *job, uint32_t segment, uint32_t numbe
         zero = zero && told.answer[i] == 0;
     test(zero, "a refusal left more than number and place", job, segment);
 }
+
+static uint32_t last_reason(void) { return corners.pointed ? BLIDROSK_POINTED : BLIDROSK_COPIED; }
 
 static bool sets_flag(uint32_t reason)
 {
@@ -173,7 +173,7 @@ static struct told ask_flagged(const struct job *job, uint32_t segment, uint8_t 
     uint32_t reason = told.answer[BLIDROSK_WHY_REASON];
     test(told.answer[BLIDROSK_WHY_NUMBER] == BLIDROSK_DONE, "it was refused", job, segment);
     test(told.answer[BLIDROSK_WHY_PLACE] == 0, "it has a place", job, segment);
-    test(reason >= BLIDROSK_IN_ORDER && reason <= BLIDROSK_COPIED, "no such reason", job, segment);
+    test(reason >= BLIDROSK_IN_ORDER && reason <= last_reason(), "no such reason", job, segment);
     test(sets_flag(reason) == (flag == 1), "the reason goes with another flag", job, segment);
     test(params_fit(&told), "the parameters go with another reason", job, segment);
     test(rules_fit(&told), "no such rule, or the rule of a connector", job, segment);
@@ -207,8 +207,9 @@ static uint32_t ask_all(const struct job *job, bool print)
     uint32_t indexes[ROOM] = {0};
     uint32_t origins[ROOM] = {0};
     uint32_t answer[5] = {0};
-    blidrosk_raw_offset(job->source, job->len, job->closed, job->offset, job->eps, vertices,
-                        3 * ROOM, flags, ROOM, indexes, ROOM, origins, ROOM, answer);
+    const struct buffers lent_buffers = {vertices, 3 * ROOM, flags,   ROOM,
+                                         indexes,  ROOM,     origins, ROOM};
+    offset_job(job, &lent_buffers, answer);
     test(answer[BLIDROSK_NUMBER] == BLIDROSK_DONE, "the job was refused", job, 0);
     uint32_t count = answer[BLIDROSK_VERTICES];
     if (count > 0 && answer[BLIDROSK_CLOSED] == 0)
@@ -287,7 +288,7 @@ static void test_refusals(void)
     }
 }
 
-int main(void)
+static void tell_all(void)
 {
     const struct job part = {"the part", PART, sizeof PART / sizeof *PART, true, 2, 1e-5};
     uint32_t count = ask_all(&part, true);
@@ -296,5 +297,14 @@ int main(void)
     test_refusals();
     printf("segment %u: refused, number %u, no such segment\n", (unsigned)count,
            (unsigned)past.answer[BLIDROSK_WHY_NUMBER]);
+}
+
+int main(void)
+{
+    tell_all();
+    printf("with pointed corners:\n");
+    corners.pointed = true;
+    corners.ratio = 2;
+    tell_all();
     return failed;
 }

@@ -1,12 +1,13 @@
 /*
  * Blidrosk: the raw offset of a drawing of lines and arcs, for cutting tables.
  *
- * Three functions: blidrosk_raw_offset offsets a drawing, flags the invalid segments of the output
+ * Five functions: blidrosk_raw_offset offsets a drawing, flags the invalid segments of the output
  * and names the origin of each; blidrosk_why tells of one output segment what it is and why its
- * flag is set or clear; blidrosk_part finds the output segments that belong to a source segment.
- * They keep nothing between calls, allocate nothing, and end at any numbers, NaN and infinities
- * included. Link libblidrosk.a, which tools/archive makes. Of the C library it takes memset, and
- * nothing else.
+ * flag is set or clear. Both draw outer corners round; blidrosk_raw_offset_pointed and
+ * blidrosk_why_pointed draw those between two lines with a point. blidrosk_part finds the segments
+ * of either output that belong to a source segment. They keep nothing between calls, allocate
+ * nothing, and end at any numbers, NaN and infinities included. Link libblidrosk.a, which
+ * tools/archive makes. Of the C library it takes memset, and nothing else.
  */
 #ifndef BLIDROSK_H
 #define BLIDROSK_H
@@ -21,8 +22,8 @@ extern "C" {
 
 /*
  * What became of a job or a question. Where several refusals apply, the one with the lowest number
- * is given. blidrosk_raw_offset refuses with 1 to 6, blidrosk_why with these but 4 and with 8, and
- * blidrosk_part with 1 and 13.
+ * is given. blidrosk_raw_offset refuses with 1 to 6, blidrosk_why with these but 4 and with 8, the
+ * pointed ones as these two, and blidrosk_part with 1 and 13.
  */
 enum blidrosk_number {
     BLIDROSK_DONE = 0,       /* done */
@@ -39,7 +40,7 @@ enum blidrosk_number {
     BLIDROSK_NO_SUCH_SOURCE_SEGMENT = 13 /* the source has no segment of that number */
 };
 
-/* Where the five entries of blidrosk_raw_offset's `answer` stand. */
+/* Where the five entries of `answer` stand, of blidrosk_raw_offset and of the pointed one. */
 enum blidrosk_entry {
     BLIDROSK_NUMBER = 0,   /* an enum blidrosk_number */
     BLIDROSK_PLACE = 1,    /* for numbers 3 and 5; 0 otherwise */
@@ -117,6 +118,50 @@ uint32_t blidrosk_raw_offset(const double *source, size_t source_len, bool close
                              size_t flags_len, uint32_t *indexes, size_t indexes_len,
                              uint32_t *origins, size_t origins_len, uint32_t answer[5]);
 
+/*
+ * Offsets a drawing as blidrosk_raw_offset does, with pointed outer corners. Returns the number of
+ * the answer, which is answer[0] too.
+ *
+ *   ratio                 how far a point may stand out: at most ratio times the offset's size from
+ *                         the source's vertex. 1 to 10, limits included.
+ *
+ * All else is as there, with these differences.
+ *
+ * Corners. At an outer corner between two lines both offset lines are prolonged to the point where
+ * they meet. If it is near enough, two straight connectors lead to it and on from it, in place of
+ * the arc, without a flag; the spans stay as long as they are. With d the distance between the
+ * point and the source's vertex, it is near enough where, as rounded,
+ * d * d <= (ratio * offset) * (ratio * offset). So two lines at the angle a to each other are
+ * pointed where 1 / sin(a / 2) is at most ratio: a right angle with 1.4143, angles wider than 60
+ * degrees with 2, and those from 11.5 degrees on with 10. Every other corner stays as it is: one
+ * whose point is farther off, one with an arc, one where the drawing turns back on itself, and one
+ * whose offset lines have a cross product below eps in size, as nearly parallel lines and short
+ * ones do. Of the two connectors, too, each is left out where it would end less than eps from where
+ * it starts, in x and in y.
+ *
+ * Room. Needed are 3n vertices, thus 9n doubles, 3n flags, 3n indexes and 3n origins, with an
+ * offset of zero too.
+ *
+ * Buffers. 3n stands for 2n here too: what is not drawn of the first 3n places is zero, after
+ * refusal 6 all of them are, and places from 3n on never change. Refusals 1 to 5, a bad ratio among
+ * them, and fewer than two vertices change no buffer.
+ *
+ * Origins. Both connectors of a point have the number 2i + 1: they belong to the segment before.
+ *
+ * Place. Number 3: v + 2 stands for the ratio, which is tested after eps, with fewer than two
+ * vertices and with an offset of zero too: no vertex and a NaN for the ratio is number 3, place 2.
+ *
+ * Closed (0, 0) (4, 0) (4, 4) (0, 4), offset -1, eps 1e-5:
+ *   - ratio 2: 12 vertices, (0, -1) (4, -1) (5, -1) (5, 0) (5, 4) (5, 5) (4, 5) and so on, with the
+ *     origins 0 1 1 2 3 3 4 5 5 6 7 7 and no bulge
+ *   - ratio 1.4: the 8 vertices of blidrosk_raw_offset, with an arc at each corner
+ */
+uint32_t blidrosk_raw_offset_pointed(const double *source, size_t source_len, bool closed,
+                                     double offset, double eps, double ratio, double *vertices,
+                                     size_t vertices_len, uint8_t *flags, size_t flags_len,
+                                     uint32_t *indexes, size_t indexes_len, uint32_t *origins,
+                                     size_t origins_len, uint32_t answer[5]);
+
 /* Whether an origin is a connector's; otherwise it is a span's. */
 static inline bool blidrosk_origin_is_connector(uint32_t origin) { return origin % 2 == 1; }
 
@@ -136,7 +181,8 @@ enum blidrosk_reason {
     BLIDROSK_MISSED = 9,          /* a gap at an inner corner: the sides meet off a span */
     BLIDROSK_ZERO_TANGENT = 10,   /* a gap where a side is too small to have a direction */
     BLIDROSK_SAME_DIRECTION = 11, /* a gap where both sides run the same way */
-    BLIDROSK_COPIED = 12          /* the offset is zero: a segment of the source as it is */
+    BLIDROSK_COPIED = 12,         /* the offset is zero: a segment of the source as it is */
+    BLIDROSK_POINTED = 13         /* a straight connector to or from the point of an outer corner */
 };
 
 /* How an arc let in the point where its span was trimmed. */
@@ -148,7 +194,7 @@ enum blidrosk_rule {
     BLIDROSK_PAST_END = 4       /* past the arc's end by no more than eps */
 };
 
-/* Where the seven entries of blidrosk_why's `answer` stand. */
+/* Where the seven entries of `answer` stand, of blidrosk_why and of the pointed one. */
 enum blidrosk_why_entry {
     BLIDROSK_WHY_NUMBER = 0,    /* an enum blidrosk_number */
     BLIDROSK_WHY_PLACE = 1,     /* for numbers 3 and 5; 0 otherwise */
@@ -181,6 +227,16 @@ enum blidrosk_why_entry {
 uint32_t blidrosk_why(const double *source, size_t source_len, bool closed, double offset,
                       double eps, uint32_t segment, uint32_t answer[7], double params[2]);
 
+/*
+ * The same of a job of blidrosk_raw_offset_pointed: it takes the ratio too, and refuses as that one
+ * does but for 4, then with 8. The reason of both connectors of a point is 13, and 4 that of an
+ * outer corner that stays round: of the square above, segment 1 has the reason 13 with ratio 2, and
+ * 4 with ratio 1.4.
+ */
+uint32_t blidrosk_why_pointed(const double *source, size_t source_len, bool closed, double offset,
+                              double eps, double ratio, uint32_t segment, uint32_t answer[7],
+                              double params[2]);
+
 /* Where the four entries of blidrosk_part's `answer` stand. */
 enum blidrosk_part_entry {
     BLIDROSK_PART_NUMBER = 0, /* an enum blidrosk_number */
@@ -190,8 +246,9 @@ enum blidrosk_part_entry {
 };
 
 /*
- * Finds the part of an output that belongs to a source segment: its span and the connector after
- * it, as far as they were drawn. Returns the number of the answer, which is answer[0] too.
+ * Finds the part of an output, round or pointed, that belongs to a source segment: its span and the
+ * connector after it, or both connectors of a point, as far as they were drawn. Returns the number
+ * of the answer, which is answer[0] too.
  *
  *   n                     the source's segments, as blidrosk_raw_offset counts them under Room
  *   flags, .._len         the flags of the output's segments. Their values are not looked at.

@@ -1,4 +1,4 @@
-//! The three functions of the archive, as `callers/include/blidrosk.h` declares them; a caller's
+//! The functions of the archive, as `callers/include/blidrosk.h` declares them; a caller's
 //! duties stand there.
 
 /// Number, place, count of vertices, count of indexes, and 1 where the drawing is closed.
@@ -28,12 +28,42 @@ unsafe extern "C" {
         answer: *mut Numbers,
     ) -> u32;
 
+    pub fn blidrosk_raw_offset_pointed(
+        source: *const f64,
+        source_len: usize,
+        closed: bool,
+        offset: f64,
+        eps: f64,
+        ratio: f64,
+        vertices: *mut f64,
+        vertices_len: usize,
+        flags: *mut u8,
+        flags_len: usize,
+        indexes: *mut u32,
+        indexes_len: usize,
+        origins: *mut u32,
+        origins_len: usize,
+        answer: *mut Numbers,
+    ) -> u32;
+
     pub fn blidrosk_why(
         source: *const f64,
         source_len: usize,
         closed: bool,
         offset: f64,
         eps: f64,
+        segment: u32,
+        answer: *mut WhyNumbers,
+        params: *mut [f64; 2],
+    ) -> u32;
+
+    pub fn blidrosk_why_pointed(
+        source: *const f64,
+        source_len: usize,
+        closed: bool,
+        offset: f64,
+        eps: f64,
+        ratio: f64,
         segment: u32,
         answer: *mut WhyNumbers,
         params: *mut [f64; 2],

@@ -37,6 +37,22 @@
 //! );
 //! ```
 //!
+//! Outer corners are round. Between two lines they can have a point instead, where it stands out by at
+//! most a given ratio of the offset: [`Corners`] says which, to [`Drawing::offset_with`] and
+//! [`why_with`].
+//!
+//! ```
+//! use blidrosk::{Corners, Drawing, Reason, why_with};
+//!
+//! let square = [0.0, 0.0, 0.0, 4.0, 0.0, 0.0, 4.0, 4.0, 0.0, 0.0, 4.0, 0.0];
+//! let pointed = Corners::Pointed { ratio: 2.0 };
+//! let drawing = Drawing::offset_with(&square, true, -1.0, 1e-5, pointed).expect("a good job");
+//! assert_eq!(drawing.vertices[3..9], [4.0, -1.0, 0.0, 5.0, -1.0, 0.0]);
+//! assert_eq!(drawing.part(0), Ok(0..3));
+//! let side = why_with(&square, true, -1.0, 1e-5, pointed, 1).expect("a good job");
+//! assert_eq!(side.reason, Reason::PointedConnector);
+//! ```
+//!
 //! # Nearly full circles and the tolerance
 //!
 //! An output segment that would end less than the tolerance from where it starts, in x and in y, is
@@ -59,6 +75,7 @@
 //! ```
 
 mod archive;
+mod corners;
 mod origin;
 mod part;
 mod refusal;
@@ -66,11 +83,12 @@ mod why;
 
 use std::ops::Range;
 
-use archive::{Numbers, blidrosk_raw_offset};
+use archive::{Numbers, blidrosk_raw_offset, blidrosk_raw_offset_pointed};
+pub use corners::Corners;
 pub use origin::Origin;
 pub use part::part;
 pub use refusal::{Bad, Refusal};
-pub use why::{Reason, Rule, Why, why};
+pub use why::{Reason, Rule, Why, why, why_with};
 
 /// The most vertices that a source may have.
 pub const MOST_VERTICES: usize = 4096;
@@ -94,8 +112,8 @@ impl Drawn {
 
 pub type Answer = Result<Drawn, Refusal>;
 
-/// Offsets a drawing into the four buffers, each of which needs [`room`] places; a place in
-/// `vertices` is three numbers.
+/// Offsets a drawing with round corners into the four buffers, each of which needs [`room`] places; a
+/// place in `vertices` is three numbers.
 ///
 /// `flags` receives a byte for each output segment, 1 where it is invalid, `indexes` the numbers of
 /// the invalid ones, and `origins` the [code](Origin::from_code) of each segment's origin. What is
@@ -116,27 +134,75 @@ pub fn raw_offset(
     indexes: &mut [u32],
     origins: &mut [u32],
 ) -> Answer {
+    raw_offset_with(
+        source,
+        closed,
+        offset,
+        eps,
+        Corners::Round,
+        vertices,
+        flags,
+        indexes,
+        origins,
+    )
+}
+
+/// The same with corners of either kind: each buffer needs [`Corners::room`] places.
+#[expect(
+    clippy::too_many_arguments,
+    reason = "they are those of the header for C"
+)]
+pub fn raw_offset_with(
+    source: &[f64],
+    closed: bool,
+    offset: f64,
+    eps: f64,
+    corners: Corners,
+    vertices: &mut [f64],
+    flags: &mut [u8],
+    indexes: &mut [u32],
+    origins: &mut [u32],
+) -> Answer {
     let mut answer: Numbers = [0; 5];
     // SAFETY: each pointer goes with the length of its own slice, the answer has five places, and
     // no two of them overlap, since all but the source are borrowed as `&mut`.
     unsafe {
-        blidrosk_raw_offset(
-            source.as_ptr(),
-            source.len(),
-            closed,
-            offset,
-            eps,
-            vertices.as_mut_ptr(),
-            vertices.len(),
-            flags.as_mut_ptr(),
-            flags.len(),
-            indexes.as_mut_ptr(),
-            indexes.len(),
-            origins.as_mut_ptr(),
-            origins.len(),
-            &mut answer,
-        );
-    }
+        match corners {
+            Corners::Round => blidrosk_raw_offset(
+                source.as_ptr(),
+                source.len(),
+                closed,
+                offset,
+                eps,
+                vertices.as_mut_ptr(),
+                vertices.len(),
+                flags.as_mut_ptr(),
+                flags.len(),
+                indexes.as_mut_ptr(),
+                indexes.len(),
+                origins.as_mut_ptr(),
+                origins.len(),
+                &mut answer,
+            ),
+            Corners::Pointed { ratio } => blidrosk_raw_offset_pointed(
+                source.as_ptr(),
+                source.len(),
+                closed,
+                offset,
+                eps,
+                ratio,
+                vertices.as_mut_ptr(),
+                vertices.len(),
+                flags.as_mut_ptr(),
+                flags.len(),
+                indexes.as_mut_ptr(),
+                indexes.len(),
+                origins.as_mut_ptr(),
+                origins.len(),
+                &mut answer,
+            ),
+        }
+    };
     read(answer, source.len() / 3)
 }
 
@@ -151,9 +217,10 @@ fn read([number, place, vertices, indexes, closed]: Numbers, source_vertices: us
     }
 }
 
-/// The places that each buffer needs for a source of so many vertices: two for each segment.
+/// The places that each buffer needs for a source of so many vertices, with round corners: two for
+/// each segment.
 pub const fn room(vertices: usize, closed: bool) -> usize {
-    segments(vertices, closed).saturating_mul(2)
+    Corners::Round.room(vertices, closed)
 }
 
 /// The segments of a drawing of so many vertices.
@@ -182,20 +249,32 @@ pub struct Drawing {
 }
 
 impl Drawing {
-    /// Offsets a drawing, with as much room as it needs.
+    /// Offsets a drawing with round corners, and as much room as it needs.
     pub fn offset(source: &[f64], closed: bool, offset: f64, eps: f64) -> Result<Self, Refusal> {
+        Drawing::offset_with(source, closed, offset, eps, Corners::Round)
+    }
+
+    /// The same with corners of either kind.
+    pub fn offset_with(
+        source: &[f64],
+        closed: bool,
+        offset: f64,
+        eps: f64,
+        corners: Corners,
+    ) -> Result<Self, Refusal> {
         // a longer source is refused before its room is looked at
         let source_vertices = (source.len() / 3).min(MOST_VERTICES);
-        let places = room(source_vertices, closed);
+        let places = corners.room(source_vertices, closed);
         let mut vertices = vec![0.0; 3 * places];
         let mut flags = vec![0; places];
         let mut indexes = vec![0; places];
         let mut origins = vec![0; places];
-        let drawn = raw_offset(
+        let drawn = raw_offset_with(
             source,
             closed,
             offset,
             eps,
+            corners,
             &mut vertices,
             &mut flags,
             &mut indexes,
@@ -215,9 +294,9 @@ impl Drawing {
         })
     }
 
-    /// The segments that belong to a source segment: its span and the connector after it, as far as
-    /// they were drawn. The range is empty where nothing was; a segment that the source does not
-    /// have is [`Refusal::NoSuchSourceSegment`].
+    /// The segments that belong to a source segment: its span and the connector after it, or both
+    /// connectors of a point, as far as they were drawn. The range is empty where nothing was; a
+    /// segment that the source does not have is [`Refusal::NoSuchSourceSegment`].
     ///
     /// ```
     /// use blidrosk::{Drawing, Refusal};

@@ -15,26 +15,30 @@ pub enum Refusal {
     TooMany,
     /// A number is a NaN, infinite, or out of its range.
     BadNumber(Bad),
-    /// A buffer has fewer places than [`room`](crate::room) says.
+    /// A buffer has fewer places than [`Corners::room`](crate::Corners::room) says.
     NoRoom,
     /// This vertex and the one that it is joined to are equal in x and in y; −0 equals 0. The offset
     /// is not zero.
     Repeated(usize),
     /// The drawing came out with a NaN or an infinity.
     NotFinite,
-    /// The output has no segment of the number that [`why`](crate::why()) was asked for.
+    /// The output has no segment of the number that [`why`](crate::why()) or
+    /// [`why_with`](crate::why_with()) was asked for.
     NoSuchSegment,
     /// The source has no segment of the number that [`part`](crate::part()) was asked for.
     NoSuchSourceSegment,
 }
 
-/// Which number is bad.
+/// Which number is bad. More may come, as the ratio did.
 #[derive(Clone, Copy, Debug, PartialEq, Eq)]
+#[non_exhaustive]
 pub enum Bad {
     /// One of this vertex, counted from 0.
     Vertex(usize),
     Offset,
     Eps,
+    /// That of [pointed corners](crate::Corners::Pointed).
+    Ratio,
 }
 
 impl Refusal {
@@ -56,14 +60,14 @@ impl Refusal {
 }
 
 impl Bad {
-    /// The offset and the tolerance are counted after the vertices.
+    /// The offset, the tolerance and the ratio are counted after the vertices.
     fn at(place: usize, source_vertices: usize) -> Self {
-        if place < source_vertices {
-            Bad::Vertex(place)
-        } else if place == source_vertices {
-            Bad::Offset
-        } else {
-            Bad::Eps
+        match place.checked_sub(source_vertices) {
+            None => Bad::Vertex(place),
+            Some(0) => Bad::Offset,
+            Some(1) => Bad::Eps,
+            Some(2) => Bad::Ratio,
+            Some(_) => unreachable!("the archive counts three numbers after the vertices"),
         }
     }
 }
@@ -76,9 +80,9 @@ impl fmt::Display for Refusal {
             ),
             Refusal::TooMany => f.write_str("the source has more than 4096 vertices"),
             Refusal::BadNumber(bad) => bad.fmt(f),
-            Refusal::NoRoom => {
-                f.write_str("a buffer is too short: each needs two places a segment")
-            }
+            Refusal::NoRoom => f.write_str(
+                "a buffer is too short: each needs two places a segment, or three where corners are pointed",
+            ),
             Refusal::Repeated(k) => write!(
                 f,
                 "vertex {k} and the one after it are the same point: leave one of them out"
@@ -101,6 +105,7 @@ impl fmt::Display for Bad {
             ),
             Bad::Offset => f.write_str("the offset is out of range: within ±1000000"),
             Bad::Eps => f.write_str("the tolerance is out of range: 1e-9 to 0.01"),
+            Bad::Ratio => f.write_str("the ratio of pointed corners is out of range: 1 to 10"),
         }
     }
 }

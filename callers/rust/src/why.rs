@@ -2,8 +2,8 @@
 
 use std::fmt;
 
-use crate::archive::{WhyNumbers, blidrosk_why};
-use crate::{Origin, Refusal};
+use crate::archive::{WhyNumbers, blidrosk_why, blidrosk_why_pointed};
+use crate::{Corners, Origin, Refusal};
 
 /// What an output segment is, and why its flag is set or clear.
 #[derive(Clone, Copy, Debug, PartialEq)]
@@ -16,9 +16,7 @@ pub struct Why {
     pub end_rule: Option<Rule>,
 }
 
-/// Why a flag is set or clear.
-///
-/// More will come: a pointed connector is to have a reason of its own.
+/// Why a flag is set or clear. More may come, as the last one did.
 #[derive(Clone, Copy, Debug, PartialEq)]
 #[non_exhaustive]
 pub enum Reason {
@@ -47,6 +45,8 @@ pub enum Reason {
     SameDirection,
     /// A segment of the source as it is, since the offset is zero.
     Copied,
+    /// A straight connector to or from the point of an outer corner.
+    PointedConnector,
 }
 
 /// How an arc let in the point where its span was trimmed.
@@ -62,7 +62,8 @@ pub enum Rule {
     PastEnd,
 }
 
-/// Tells of an output segment of a job what it is and why its flag is set or clear.
+/// Tells of an output segment of a job with round corners what it is and why its flag is set or
+/// clear.
 ///
 /// Source, closed, offset and tolerance are those of [`Drawing::offset`](crate::Drawing::offset),
 /// and `segment` is the place of its flag. The job is refused as there; then a segment that the
@@ -90,22 +91,61 @@ pub fn why(
     eps: f64,
     segment: u32,
 ) -> Result<Why, Refusal> {
+    why_with(source, closed, offset, eps, Corners::Round, segment)
+}
+
+/// The same of a job with corners of either kind, of
+/// [`Drawing::offset_with`](crate::Drawing::offset_with).
+///
+/// ```
+/// use blidrosk::{Corners, why_with};
+///
+/// // a corner, cut 1 outside: its point stands out by 1.41421356.. times the offset
+/// let corner = [0.0, 0.0, 0.0, 4.0, 0.0, 0.0, 4.0, 4.0, 0.0];
+/// let told = |ratio| {
+///     let why = why_with(&corner, false, -1.0, 1e-5, Corners::Pointed { ratio }, 1);
+///     why.expect("a good job").to_string()
+/// };
+/// assert_eq!(told(1.5), "the connector after source segment 0 makes the point of an outer corner");
+/// assert_eq!(told(1.4), "the connector after source segment 0 goes round an outer corner");
+/// ```
+pub fn why_with(
+    source: &[f64],
+    closed: bool,
+    offset: f64,
+    eps: f64,
+    corners: Corners,
+    segment: u32,
+) -> Result<Why, Refusal> {
     let mut answer: WhyNumbers = [0; 7];
     let mut params = [0.0; 2];
     // SAFETY: the source's pointer goes with its own length, the answer has seven places and the
     // parameters two, and neither overlaps the other or the source, since both are new here.
     unsafe {
-        blidrosk_why(
-            source.as_ptr(),
-            source.len(),
-            closed,
-            offset,
-            eps,
-            segment,
-            &mut answer,
-            &mut params,
-        );
-    }
+        match corners {
+            Corners::Round => blidrosk_why(
+                source.as_ptr(),
+                source.len(),
+                closed,
+                offset,
+                eps,
+                segment,
+                &mut answer,
+                &mut params,
+            ),
+            Corners::Pointed { ratio } => blidrosk_why_pointed(
+                source.as_ptr(),
+                source.len(),
+                closed,
+                offset,
+                eps,
+                ratio,
+                segment,
+                &mut answer,
+                &mut params,
+            ),
+        }
+    };
     read(answer, params, source.len() / 3)
 }
 
@@ -145,7 +185,8 @@ impl Reason {
             10 => Reason::ZeroTangent,
             11 => Reason::SameDirection,
             12 => Reason::Copied,
-            _ => unreachable!("the archive tells reasons 1 to 12"),
+            13 => Reason::PointedConnector,
+            _ => unreachable!("the archive tells reasons 1 to 13"),
         }
     }
 
@@ -164,6 +205,7 @@ impl Reason {
             Reason::ZeroTangent => 10,
             Reason::SameDirection => 11,
             Reason::Copied => 12,
+            Reason::PointedConnector => 13,
         }
     }
 
@@ -181,7 +223,8 @@ impl Reason {
             | Reason::Round
             | Reason::Reversal
             | Reason::Meeting
-            | Reason::Copied => false,
+            | Reason::Copied
+            | Reason::PointedConnector => false,
         }
     }
 }
@@ -225,6 +268,7 @@ impl fmt::Display for Reason {
             Reason::ZeroTangent => "bridges a gap: a side is too small to have a direction",
             Reason::SameDirection => "bridges a gap: both sides run the same way",
             Reason::Copied => "is copied as it is: the offset is zero",
+            Reason::PointedConnector => "makes the point of an outer corner",
         })
     }
 }

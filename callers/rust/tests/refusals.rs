@@ -1,8 +1,12 @@
-//! Each refusal, at its border, and what it leaves in the buffers.
+//! Each refusal, at its border, and what it leaves in the buffers, with corners of both kinds.
 
-use blidrosk::{Answer, Bad, Drawing, MOST_VERTICES, Refusal, raw_offset, room};
+use blidrosk::{Answer, Bad, Corners, Drawing, MOST_VERTICES, Refusal, raw_offset_with, room};
 
 const EPS: f64 = 1e-5;
+
+const POINTED: Corners = Corners::Pointed { ratio: 2.0 };
+
+const BOTH: [Corners; 2] = [Corners::Round, POINTED];
 
 const CORNER: [f64; 9] = [0.0, 0.0, 0.0, 4.0, 0.0, 0.0, 4.0, 4.0, 0.0];
 
@@ -30,12 +34,20 @@ impl Buffers {
         Buffers::marked([3 * places, places, places, places])
     }
 
-    fn job(&mut self, source: &[f64], closed: bool, offset: f64, eps: f64) -> Answer {
-        raw_offset(
+    fn job(
+        &mut self,
+        corners: Corners,
+        source: &[f64],
+        closed: bool,
+        offset: f64,
+        eps: f64,
+    ) -> Answer {
+        raw_offset_with(
             source,
             closed,
             offset,
             eps,
+            corners,
             &mut self.vertices,
             &mut self.flags,
             &mut self.indexes,
@@ -46,10 +58,13 @@ impl Buffers {
 
 #[track_caller]
 fn assert_refused(source: &[f64], closed: bool, offset: f64, eps: f64, refusal: Refusal) {
-    let mut buffers = Buffers::of(room(source.len() / 3, closed) + 1);
-    let before = buffers.clone();
-    assert_eq!(buffers.job(source, closed, offset, eps), Err(refusal));
-    assert_eq!(buffers, before, "a refusal changed a buffer");
+    for corners in BOTH {
+        let mut buffers = Buffers::of(corners.room(source.len() / 3, closed) + 1);
+        let before = buffers.clone();
+        let answer = buffers.job(corners, source, closed, offset, eps);
+        assert_eq!(answer, Err(refusal));
+        assert_eq!(buffers, before, "a refusal changed a buffer");
+    }
 }
 
 /// So many vertices along a line, half apart.
@@ -119,19 +134,25 @@ fn ranges_include_their_limits() {
 
 #[test]
 fn room_one_short() {
-    for (closed, places) in [(false, 4), (true, 6)] {
-        assert_eq!(room(3, closed), places);
+    assert_eq!((room(3, false), room(3, true)), (4, 6));
+    for (corners, closed, places) in [
+        (Corners::Round, false, 4),
+        (Corners::Round, true, 6),
+        (POINTED, false, 6),
+        (POINTED, true, 9),
+    ] {
+        assert_eq!(corners.room(3, closed), places);
         let needed = [3 * places, places, places, places];
-        for offset in [1.0, 0.0] {
-            let enough = Buffers::marked(needed).job(&CORNER, closed, offset, EPS);
+        for offset in [1.0, -1.0, 0.0] {
+            let enough = Buffers::marked(needed).job(corners, &CORNER, closed, offset, EPS);
             assert!(enough.is_ok());
             for buffer in 0..4 {
-                for lent in [needed[buffer] - 1, places / 2, 0] {
+                for lent in [needed[buffer] - 1, needed[buffer] * 2 / 3, places / 2, 0] {
                     let mut short = needed;
                     short[buffer] = lent;
                     let mut buffers = Buffers::marked(short);
                     let before = buffers.clone();
-                    let answer = buffers.job(&CORNER, closed, offset, EPS);
+                    let answer = buffers.job(corners, &CORNER, closed, offset, EPS);
                     assert_eq!(answer, Err(Refusal::NoRoom), "{short:?}");
                     assert_eq!(buffers, before);
                 }
@@ -142,13 +163,29 @@ fn room_one_short() {
 
 #[test]
 fn room_is_looked_at_after_the_numbers_and_before_the_points() {
-    let short = [12, 4, 4, 3];
-    let refused = |source: &[f64], eps| Buffers::marked(short).job(source, false, 1.0, eps);
-    let bad = Refusal::BadNumber(Bad::Eps);
-    assert_eq!(refused(&CORNER, 1.0), Err(bad));
-    let twice = with(CORNER, 7, 0.0);
-    assert_eq!(refused(&twice, EPS), Err(Refusal::NoRoom));
-    assert_eq!(refused(&CORNER[..8], EPS), Err(Refusal::Ragged));
+    for (corners, short) in [(Corners::Round, [12, 4, 4, 3]), (POINTED, [18, 6, 6, 5])] {
+        let refused =
+            |source: &[f64], eps| Buffers::marked(short).job(corners, source, false, 1.0, eps);
+        let bad = Refusal::BadNumber(Bad::Eps);
+        assert_eq!(refused(&CORNER, 1.0), Err(bad));
+        let twice = with(CORNER, 7, 0.0);
+        assert_eq!(refused(&twice, EPS), Err(Refusal::NoRoom));
+        assert_eq!(refused(&CORNER[..8], EPS), Err(Refusal::Ragged));
+    }
+}
+
+#[test]
+fn a_bad_ratio_changes_no_buffer_however_long() {
+    let bad = Corners::Pointed { ratio: f64::NAN };
+    for source in [&CORNER[..0], &CORNER[..3], &CORNER[..6], &CORNER] {
+        for places in [0, 1, POINTED.room(source.len() / 3, true) + 1] {
+            let mut buffers = Buffers::of(places);
+            let before = buffers.clone();
+            let answer = buffers.job(bad, source, true, 1.0, EPS);
+            assert_eq!(answer, Err(Refusal::BadNumber(Bad::Ratio)));
+            assert_eq!(buffers, before);
+        }
+    }
 }
 
 #[test]
@@ -206,23 +243,28 @@ fn a_segment_whose_length_is_zero_by_its_square() {
 #[test]
 fn a_drawing_that_is_not_finite_leaves_zeros_in_the_room() {
     let source = [5.0, 0.0, 0.6180339887498949, -3.0, 4.0, 0.0, 5.0, 4.0, 0.0];
-    let places = room(3, false);
-    let mut buffers = Buffers::of(places + 1);
-    let answer = buffers.job(&source, false, 0.5000002384185791, 4.7683715820312495e-7);
-    assert_eq!(answer, Err(Refusal::NotFinite));
-    let mut left = Buffers::of(places + 1);
-    left.vertices[..3 * places].fill(0.0);
-    left.flags[..places].fill(0);
-    left.indexes[..places].fill(0);
-    left.origins[..places].fill(0);
-    assert_eq!(buffers, left);
+    let (by, eps) = (0.5000002384185791, 4.7683715820312495e-7);
+    for corners in BOTH {
+        let places = corners.room(3, false);
+        let mut buffers = Buffers::of(places + 1);
+        let answer = buffers.job(corners, &source, false, by, eps);
+        assert_eq!(answer, Err(Refusal::NotFinite));
+        let mut left = Buffers::of(places + 1);
+        left.vertices[..3 * places].fill(0.0);
+        left.flags[..places].fill(0);
+        left.indexes[..places].fill(0);
+        left.origins[..places].fill(0);
+        assert_eq!(buffers, left);
+    }
 }
 
 #[test]
 fn what_is_done_stays_within_the_room() {
     let places = room(3, false);
     let mut buffers = Buffers::of(places + 1);
-    let drawn = buffers.job(&CORNER, false, 1.0, EPS).expect("a good job");
+    let drawn = buffers
+        .job(Corners::Round, &CORNER, false, 1.0, EPS)
+        .expect("a good job");
     assert_eq!((drawn.vertices, drawn.indexes, drawn.closed), (3, 0, false));
     assert_eq!(buffers.vertices[9..], [0.0, 0.0, 0.0, -7.5, -7.5, -7.5]);
     assert_eq!(buffers.flags, [0, 0, 0, 0, 77]);
@@ -231,34 +273,67 @@ fn what_is_done_stays_within_the_room() {
 }
 
 #[test]
-fn what_is_copied_stays_within_the_room() {
-    let places = room(3, true);
-    let mut buffers = Buffers::of(places + 1);
-    let drawn = buffers.job(&CORNER, true, -0.0, EPS).expect("a good job");
-    assert_eq!((drawn.vertices, drawn.indexes, drawn.closed), (3, 0, true));
+fn what_is_done_with_a_point_stays_within_its_room() {
+    let mut buffers = Buffers::of(POINTED.room(3, false) + 1);
+    let drawn = buffers
+        .job(POINTED, &CORNER, false, -1.0, EPS)
+        .expect("a good job");
+    assert_eq!((drawn.vertices, drawn.indexes, drawn.closed), (5, 0, false));
+    let points = [0.0, -1.0, 0.0, 4.0, -1.0, 0.0, 5.0, -1.0, 0.0];
+    assert_eq!(buffers.vertices[..9], points);
+    assert_eq!(buffers.vertices[15..], [0.0, 0.0, 0.0, -7.5, -7.5, -7.5]);
     assert_eq!(buffers.flags, [0, 0, 0, 0, 0, 0, 77]);
-    assert_eq!(buffers.origins, [0, 2, 4, 0, 0, 0, 7777]);
+    assert_eq!(buffers.indexes, [0, 0, 0, 0, 0, 0, 777]);
+    assert_eq!(buffers.origins, [0, 1, 1, 2, 0, 0, 7777]);
+}
+
+#[test]
+fn what_is_copied_stays_within_the_room() {
+    for corners in BOTH {
+        let places = corners.room(3, true);
+        let mut buffers = Buffers::of(places + 1);
+        let drawn = buffers
+            .job(corners, &CORNER, true, -0.0, EPS)
+            .expect("a good job");
+        assert_eq!((drawn.vertices, drawn.indexes, drawn.closed), (3, 0, true));
+        let mut left = Buffers::of(places + 1);
+        left.vertices[..3 * places].fill(0.0);
+        left.vertices[..9].copy_from_slice(&CORNER);
+        left.flags[..places].fill(0);
+        left.indexes[..places].fill(0);
+        left.origins[..places].fill(0);
+        left.origins[..3].copy_from_slice(&[0, 2, 4]);
+        assert_eq!(buffers, left);
+    }
 }
 
 #[test]
 fn what_is_empty_leaves_zeros_in_the_room() {
     let arc = [0.0, 0.0, 1.0, 4.0, 0.0, 0.0];
-    let mut buffers = Buffers::of(3);
-    let drawn = buffers.job(&arc, false, 3.0, EPS).expect("a good job");
-    assert_eq!((drawn.vertices, drawn.segments()), (0, 0));
-    assert_eq!(buffers.flags, [0, 0, 77]);
-    assert_eq!(buffers.origins, [0, 0, 7777]);
+    for corners in BOTH {
+        let places = corners.room(2, false);
+        let mut buffers = Buffers::of(places + 1);
+        let drawn = buffers
+            .job(corners, &arc, false, 3.0, EPS)
+            .expect("a good job");
+        assert_eq!((drawn.vertices, drawn.segments()), (0, 0));
+        assert_eq!(buffers.flags[..places], vec![0; places]);
+        assert_eq!(buffers.origins[..places], vec![0; places]);
+        assert_eq!((buffers.flags[places], buffers.origins[places]), (77, 7777));
+    }
 }
 
 #[test]
 fn a_lone_vertex_changes_no_buffer() {
-    let mut buffers = Buffers::of(2);
-    let before = buffers.clone();
-    let drawn = buffers
-        .job(&CORNER[..3], true, 1.0, EPS)
-        .expect("a good job");
-    assert_eq!((drawn.vertices, drawn.indexes, drawn.closed), (0, 0, false));
-    assert_eq!(buffers, before);
+    for corners in BOTH {
+        let mut buffers = Buffers::of(3);
+        let before = buffers.clone();
+        let drawn = buffers
+            .job(corners, &CORNER[..3], true, 1.0, EPS)
+            .expect("a good job");
+        assert_eq!((drawn.vertices, drawn.indexes, drawn.closed), (0, 0, false));
+        assert_eq!(buffers, before);
+    }
 }
 
 #[test]
@@ -276,4 +351,6 @@ fn words_for_the_one_who_drew_it() {
     assert!(said(&bulge, EPS).ends_with("bulge within ±1000000000"));
     let twice = with(CORNER, 7, 0.0);
     assert!(said(&twice, EPS).starts_with("vertex 1 and the one after it are the same point"));
+    let short = Refusal::NoRoom.to_string();
+    assert!(short.ends_with("two places a segment, or three where corners are pointed"));
 }

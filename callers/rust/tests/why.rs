@@ -1,6 +1,8 @@
 //! What an output segment is and why its flag is set or clear, and what is refused.
 
-use blidrosk::{Bad, Drawing, MOST_VERTICES, Origin, Reason, Refusal, Rule, Why, why};
+use blidrosk::{
+    Bad, Corners, Drawing, MOST_VERTICES, Origin, Reason, Refusal, Rule, Why, why, why_with,
+};
 
 const EPS: f64 = 1e-5;
 
@@ -18,6 +20,7 @@ struct Job {
     source: Vec<f64>,
     closed: bool,
     offset: f64,
+    corners: Corners,
 }
 
 fn open(offset: f64, vertices: &[Vertex]) -> Job {
@@ -25,6 +28,7 @@ fn open(offset: f64, vertices: &[Vertex]) -> Job {
         source: vertices.as_flattened().to_vec(),
         closed: false,
         offset,
+        corners: Corners::Round,
     }
 }
 
@@ -36,16 +40,40 @@ fn closed(offset: f64, vertices: &[Vertex]) -> Job {
 }
 
 impl Job {
+    fn pointed(mut self, ratio: f64) -> Job {
+        self.corners = Corners::Pointed { ratio };
+        self
+    }
+
+    /// With round corners, and with those that are pointed.
+    fn both(self) -> [Job; 2] {
+        [self.clone(), self.pointed(2.0)]
+    }
+
     fn why(&self, segment: u32) -> Result<Why, Refusal> {
-        why(&self.source, self.closed, self.offset, EPS, segment)
+        let Job {
+            source,
+            closed,
+            offset,
+            corners,
+        } = self;
+        let told = why_with(source, *closed, *offset, EPS, *corners, segment);
+        if *corners == Corners::Round {
+            assert_eq!(told, why(source, *closed, *offset, EPS, segment));
+        }
+        told
     }
 
     fn told(&self, segment: u32) -> Why {
         self.why(segment).expect("a good job and segment")
     }
 
+    fn drawn(&self) -> Result<Drawing, Refusal> {
+        Drawing::offset_with(&self.source, self.closed, self.offset, EPS, self.corners)
+    }
+
     fn drawing(&self) -> Drawing {
-        Drawing::offset(&self.source, self.closed, self.offset, EPS).expect("a good job")
+        self.drawn().expect("a good job")
     }
 }
 
@@ -205,7 +233,8 @@ fn reasons_go_with_the_flags_and_origins_and_end_with_them() {
         &[],
     ] {
         for offset in [-3.0, -2.0, -0.5, 0.0, 0.5, 1.5, 2.0, 3.0] {
-            for job in [open(offset, vertices), closed(offset, vertices)] {
+            let jobs = [open(offset, vertices), closed(offset, vertices)];
+            for job in jobs.into_iter().flat_map(Job::both) {
                 let Drawing { flags, origins, .. } = job.drawing();
                 for (segment, marked) in (0..).zip(flags.iter().zip(&origins)) {
                     let told = job.told(segment);
@@ -250,9 +279,10 @@ fn a_job_is_refused_as_its_drawing_is() {
         ),
     ];
     for (job, refusal) in refused {
-        assert_refused(&job, refusal);
-        let drawing = Drawing::offset(&job.source, job.closed, job.offset, EPS);
-        assert_eq!(drawing, Err(refusal));
+        for job in job.both() {
+            assert_refused(&job, refusal);
+            assert_eq!(job.drawn(), Err(refusal));
+        }
     }
     let eps = why(CORNER.as_flattened(), false, 1.0, 0.0, 0);
     assert_eq!(eps, Err(Refusal::BadNumber(Bad::Eps)));
@@ -270,6 +300,8 @@ fn the_most_vertices_are_taken_and_one_more_is_not() {
     for job in [
         open(0.125, &zigzag(MOST_VERTICES)),
         closed(-0.125, &zigzag(MOST_VERTICES)),
+        open(0.125, &zigzag(MOST_VERTICES)).pointed(2.0),
+        closed(-0.125, &zigzag(MOST_VERTICES)).pointed(10.0),
         open(-0.0, &zigzag(MOST_VERTICES)),
     ] {
         let Drawing { flags, origins, .. } = job.drawing();
@@ -285,8 +317,11 @@ fn the_most_vertices_are_taken_and_one_more_is_not() {
         }
     }
     let more = zigzag(MOST_VERTICES + 1);
-    assert_refused(&open(0.125, &more), Refusal::TooMany);
-    assert_refused(&closed(0.0, &more), Refusal::TooMany);
+    for job in [open(0.125, &more), closed(0.0, &more)] {
+        for job in job.both() {
+            assert_refused(&job, Refusal::TooMany);
+        }
+    }
 }
 
 #[test]
@@ -319,7 +354,8 @@ fn limits_are_taken_and_the_next_double_is_not() {
 #[test]
 fn nothing_has_no_segment() {
     for vertices in [&[][..], &LINE[..1]] {
-        for job in [open(1.0, vertices), closed(0.0, vertices)] {
+        let jobs = [open(1.0, vertices), closed(0.0, vertices)];
+        for job in jobs.into_iter().flat_map(Job::both) {
             assert_refused(&job, Refusal::NoSuchSegment);
         }
     }
