@@ -1,5 +1,6 @@
 //! The proved functions, and what the programs here share.
 
+pub mod beside;
 pub mod drawings;
 
 // Any numbers may be handed to these.

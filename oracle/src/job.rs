@@ -27,6 +27,7 @@ pub fn plain_job(job: &Job, lent: Lent) -> Answer {
 }
 
 fn job_on<P: Draws>(job: &Job, mut lent: Lent) -> Answer {
+    assert!(job.ratio.is_none(), "000 has the round mode alone");
     let v = job.source.len() / 3;
     if !job.source.len().is_multiple_of(3) {
         return refused(1, 0);

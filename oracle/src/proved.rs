@@ -6,7 +6,10 @@ mod archive;
 
 use crate::part::{Output, PartAnswer};
 use crate::stage::{Answer, Job, Lent};
-use archive::{blidrosk_part, blidrosk_raw_offset, blidrosk_why};
+use archive::{
+    blidrosk_part, blidrosk_raw_offset, blidrosk_raw_offset_pointed, blidrosk_why,
+    blidrosk_why_pointed,
+};
 use std::array;
 
 /// An answer that no job has.
@@ -30,10 +33,39 @@ pub type Function = unsafe extern "C" fn(
     *mut Answer,
 ) -> u32;
 
-/// Works one job on the proved code.
+/// Works one job on the proved code, in the job's mode.
 pub fn job(job: &Job, lent: Lent) -> Answer {
-    // SAFETY: it is the archive's.
-    unsafe { job_by(blidrosk_raw_offset, job, lent) }
+    match job.ratio {
+        // SAFETY: it is the archive's.
+        None => unsafe { job_by(blidrosk_raw_offset, job, lent) },
+        Some(ratio) => pointed(job, ratio, lent),
+    }
+}
+
+/// The same in the pointed mode.
+fn pointed(job: &Job, ratio: f64, lent: Lent) -> Answer {
+    let mut answer = TORN;
+    // SAFETY: each pointer is lent with its own length, and the answer has five places.
+    let number = unsafe {
+        blidrosk_raw_offset_pointed(
+            job.source.as_ptr(),
+            job.source.len(),
+            job.closed,
+            job.offset,
+            job.eps,
+            ratio,
+            lent.vertices.as_mut_ptr(),
+            lent.vertices.len(),
+            lent.flags.as_mut_ptr(),
+            lent.flags.len(),
+            lent.indexes.as_mut_ptr(),
+            lent.indexes.len(),
+            lent.origins.as_mut_ptr(),
+            lent.origins.len(),
+            &mut answer,
+        )
+    };
+    if number == answer[0] { answer } else { TORN }
 }
 
 /// Works one job. Its number comes back twice; where the two differ, the answer is `TORN`.
@@ -80,18 +112,18 @@ const TORN_WHY: WhyTold = ([u32::MAX; 7], [u64::MAX; 2]);
 /// or a place past the answer or the parameters was written to, the answer is `TORN_WHY`.
 pub fn why(job: &Job, segment: u32) -> WhyTold {
     let (mut answer, mut params) = ([UNSET; 10], [UNSET_PARAM; 5]);
+    let (source, length) = (job.source.as_ptr(), job.source.len());
+    let (closed, offset, eps) = (job.closed, job.offset, job.eps);
+    let told = answer.as_mut_ptr().cast();
+    let both = params.as_mut_ptr().cast();
     // SAFETY: the source is lent with its length; seven numbers and two parameters have their places.
     let number = unsafe {
-        blidrosk_why(
-            job.source.as_ptr(),
-            job.source.len(),
-            job.closed,
-            job.offset,
-            job.eps,
-            segment,
-            answer.as_mut_ptr().cast(),
-            params.as_mut_ptr().cast(),
-        )
+        match job.ratio {
+            None => blidrosk_why(source, length, closed, offset, eps, segment, told, both),
+            Some(ratio) => blidrosk_why_pointed(
+                source, length, closed, offset, eps, ratio, segment, told, both,
+            ),
+        }
     };
     let kept = answer[7..] == [UNSET; 3] && params[2..] == [UNSET_PARAM; 3];
     if kept && number == answer[0] {

@@ -21,6 +21,8 @@ pub struct Job {
     pub closed: bool,
     pub offset: f64,
     pub eps: f64,
+    /// In the pointed mode of 02's 2026-13, how far off a point may lie; none in the round mode.
+    pub ratio: Option<f64>,
     /// How many places are lent.
     pub room: Places,
 }
@@ -32,16 +34,38 @@ pub const SPARE: usize = 1;
 const BEYOND: usize = 3;
 
 impl Job {
-    /// A job that is lent the places it needs and `SPARE` more of each kind.
+    /// A job of the round mode that is lent the places it needs and `SPARE` more of each kind.
     pub fn new(closed: bool, offset: f64, eps: f64, source: Vec<f64>) -> Self {
-        let mut job = Self {
+        let job = Self {
             source,
             closed,
             offset,
             eps,
+            ratio: None,
             room: [0; 4],
         };
-        job.lend(2 * job.segments() + SPARE);
+        job.lent_enough()
+    }
+
+    /// The same job in the pointed mode, lent what it needs there.
+    pub fn pointed(&self, ratio: f64) -> Self {
+        let ratio = Some(ratio);
+        let job = Self {
+            ratio,
+            ..self.clone()
+        };
+        job.lent_enough()
+    }
+
+    /// The same job in the round mode, lent what it needs there.
+    pub fn round(&self) -> Self {
+        Self::new(self.closed, self.offset, self.eps, self.source.clone())
+    }
+
+    /// The same job, lent the places it needs and `SPARE` more of each kind.
+    pub fn lent_enough(&self) -> Self {
+        let mut job = self.clone();
+        job.lend(job.need() + SPARE);
         job
     }
 
@@ -52,6 +76,43 @@ impl Job {
             v if self.closed => v,
             v => v - 1,
         }
+    }
+
+    /// How many places of each kind it needs: 01's 2n, and 3n in the pointed mode.
+    pub fn need(&self) -> usize {
+        let each = if self.ratio.is_some() { 3 } else { 2 };
+        each * self.segments()
+    }
+
+    /// How many numbers it has: offset, ε, the source, and the ratio last.
+    pub fn numbers(&self) -> usize {
+        2 + self.source.len() + usize::from(self.ratio.is_some())
+    }
+
+    pub fn number(&self, slot: usize) -> f64 {
+        match slot {
+            0 => self.offset,
+            1 => self.eps,
+            _ => *self.source.get(slot - 2).unwrap_or_else(|| self.last()),
+        }
+    }
+
+    fn last(&self) -> &f64 {
+        self.ratio.as_ref().expect("a slot of the job's own")
+    }
+
+    /// The same job with another number.
+    pub fn with_number(&self, slot: usize, number: f64) -> Self {
+        let mut job = self.clone();
+        match slot {
+            0 => job.offset = number,
+            1 => job.eps = number,
+            _ => match job.source.get_mut(slot - 2) {
+                Some(place) => *place = number,
+                None => job.ratio = Some(number),
+            },
+        }
+        job
     }
 
     /// Lends places for `count` vertices, flags, indexes and origins.
@@ -88,7 +149,7 @@ impl Job {
     /// and read again gets the same.
     pub fn before(&self) -> Before {
         let numbers = [self.offset, self.eps];
-        let numbers = numbers.iter().chain(&self.source);
+        let numbers = numbers.iter().chain(&self.source).chain(&self.ratio);
         let mixed = numbers.fold(u64::from(self.closed), |mixed, number| {
             (mixed.rotate_left(5) ^ number.to_bits()).wrapping_mul(0x9e37_79b9_7f4a_7c15)
         });
@@ -187,11 +248,11 @@ impl Outcome {
     }
 
     /// Whether each place that the job may not touch holds what it held: all of them after Nos. 1
-    /// to 5 and without a segment, otherwise those from 2n on.
+    /// to 5 and without a segment, otherwise those past what it needs.
     pub fn keeps(&self, job: &Job, before: Before) -> bool {
         let set = match self.answer[0] {
             1..=5 => 0,
-            _ => 2 * job.segments(),
+            _ => job.need(),
         };
         let mut numbers = self.vertices.iter().enumerate().skip(3 * set);
         let mut flags = self.flags.iter().enumerate().skip(set);

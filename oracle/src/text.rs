@@ -1,9 +1,10 @@
 //! Jobs and outcomes as rows of text: words parted by one space, numbers as their 64 bits in
 //! sixteen hexadecimal digits. In an outcome any NaN is written 7ff8000000000000.
 //!
-//! A job: `closed offset eps v x y bulge ..`, closed being 0 or 1. Where its list is ragged, or it is
-//! lent other places than it needs and one more, `room numbers flags indexes origins` comes first, and
-//! the count of numbers stands for v. An outcome: `number place vertices indexes closed`, the drawn
+//! A job: `closed offset eps v x y bulge ..`, closed being 0 or 1; in the pointed mode 2 or 3, and the
+//! ratio comes after eps. Where its list is ragged, or it is lent other places than it needs and one
+//! more, `room numbers flags indexes origins` comes first, and the count of numbers stands for v. An
+//! outcome: `number place vertices indexes closed`, the drawn
 //! numbers, one flag for each output segment, the indexes, one origin for each output segment.
 //!
 //! A question for a part: `part n source flags`, the last being how many there are, then the flags and
@@ -23,7 +24,7 @@ pub fn exact(number: f64) -> String {
     format!("{:016x}", number.to_bits())
 }
 
-/// The row of a job whose list is not ragged, and which is lent what `Job::new` lends it.
+/// The row of a job whose list is not ragged, and which is lent enough.
 pub fn job_row(job: &Job) -> String {
     row_of(job, job.source.len() / 3)
 }
@@ -36,16 +37,20 @@ pub fn any_job_row(job: &Job) -> String {
 }
 
 fn row_of(job: &Job, count: usize) -> String {
-    let mut row = format!(
-        "{} {} {} {count}",
-        u8::from(job.closed),
-        exact(job.offset),
-        exact(job.eps),
-    );
+    let mut row = format!("{} {} {}", mode(job), exact(job.offset), exact(job.eps));
+    if let Some(ratio) = job.ratio {
+        write!(row, " {}", exact(ratio)).expect("a string takes all");
+    }
+    write!(row, " {count}").expect("a string takes all");
     for number in &job.source {
         write!(row, " {}", exact(*number)).expect("a string takes all");
     }
     row
+}
+
+/// 1 of a closed job, and 2 more of the pointed mode.
+pub fn mode(job: &Job) -> u8 {
+    u8::from(job.closed) + 2 * u8::from(job.ratio.is_some())
 }
 
 pub fn outcome_row(outcome: &Outcome) -> String {
@@ -128,16 +133,27 @@ pub fn read_job(row: &str) -> Option<Job> {
 
 /// Reads a job whose row says how many times `each` numbers there are.
 fn read_words<'a>(words: &mut impl Iterator<Item = &'a str>, each: usize) -> Option<Job> {
-    let closed = match words.next()? {
-        "0" => false,
-        "1" => true,
+    let (closed, pointed) = match words.next()? {
+        "0" => (false, false),
+        "1" => (true, false),
+        "2" => (false, true),
+        "3" => (true, true),
         _ => return None,
     };
     let offset = number(words.next()?)?;
     let eps = number(words.next()?)?;
+    let ratio = if pointed {
+        Some(number(words.next()?)?)
+    } else {
+        None
+    };
     let count: usize = words.next()?.parse().ok()?;
     let source: Vec<f64> = words.map(number).collect::<Option<_>>()?;
-    (source.len() == each * count).then(|| Job::new(closed, offset, eps, source))
+    let job = (source.len() == each * count).then(|| Job::new(closed, offset, eps, source))?;
+    Some(match ratio {
+        Some(ratio) => job.pointed(ratio),
+        None => job,
+    })
 }
 
 fn number(word: &str) -> Option<f64> {

@@ -2,12 +2,14 @@
 
 use oracle::text::read_job;
 use oracle::traced::Event::{No1, No2, No4};
-use oracle::traced::{EXPECTED, Site, Table, Trace, job};
+use oracle::traced::{EXPECTED, POINTED, Site, Table, Trace, job};
 
 const JOBS: [&str; 2] = [
     include_str!("../src/bin/samples/settled.txt"),
     include_str!("../src/bin/samples/jobs.txt"),
 ];
+
+const POINTED_JOBS: &str = include_str!("../src/bin/samples/pointed.txt");
 
 /// Not in the list of samples: ragged and long lists, and little room, which `scope.rs` has.
 const ELSEWHERE: &[(Site, bool)] = &[
@@ -34,7 +36,7 @@ fn the_sample_jobs_reach_all() {
         table.add(&trace);
     }
     let mut missing = Vec::new();
-    for site in Site::ALL {
+    for site in Site::ROUND {
         for answer in [false, true] {
             let one = (*site, answer);
             let reached = table.sites[*site as usize][usize::from(answer)] > 0;
@@ -52,4 +54,26 @@ fn the_sample_jobs_reach_all() {
         }
     }
     assert!(missing.is_empty(), "{missing:#?}");
+}
+
+/// Those of the pointed mode, all that it has besides.
+#[test]
+fn the_pointed_sample_jobs_reach_all() {
+    let mut table = Table::default();
+    for row in POINTED_JOBS.lines().filter(|row| !row.starts_with('#')) {
+        let mut trace = Trace::new();
+        job(&mut trace, &read_job(row).expect("a job"));
+        table.add(&trace);
+    }
+    for site in Site::POINTED {
+        let [no, yes] = table.sites[*site as usize];
+        assert!(no > 0 && yes > 0, "{}", site.text());
+    }
+    for (pair, events) in POINTED {
+        for event in *events {
+            let count = table.events[*event as usize][*pair as usize];
+            assert!(count > 0, "{}", event.text());
+        }
+    }
+    assert!(table.not_listed().is_empty());
 }

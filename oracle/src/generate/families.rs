@@ -58,7 +58,7 @@ pub(super) const TOLERANCES: [f64; 5] = [1e-5, 1e-9, 0.01, 1e-3, 1e-7];
 /// The largest bulge, by 2026-02.
 const MOST_BULGE: f64 = 1e9;
 
-fn lines(_: &mut Random) -> f64 {
+pub(super) fn lines(_: &mut Random) -> f64 {
     0.0
 }
 
@@ -144,7 +144,7 @@ pub(super) fn snapped(random: &mut Random) -> Job {
 
 /// A snapped job with one number moved by about ε, by a few units in the last place, by a middling
 /// step, or turned in its sign.
-fn nudged(random: &mut Random) -> Job {
+pub(super) fn nudged(random: &mut Random) -> Job {
     let mut job = snapped(random);
     if job.source.is_empty() {
         return job;
@@ -479,20 +479,13 @@ fn odd(random: &mut Random) -> Job {
 
 /// The job with a NaN for one of its numbers: of either sign, signalling or not, with any payload.
 pub fn with_a_nan(random: &mut Random, job: &Job) -> Job {
-    let mut job = job.clone();
-    let slot = random.below(job.source.len() + 2);
-    let number = match slot {
-        0 => &mut job.offset,
-        1 => &mut job.eps,
-        _ => &mut job.source[slot - 2],
-    };
+    let slot = random.below(job.numbers());
     let any = random.bits() >> 13;
     let payload = random.pick(&[1, (1 << 51) - 1, any]);
     let quiet = random.one_in(2) || payload == 0;
     let sign = random.one_in(2);
     let top = u64::from(sign) << 63 | 0x7ff << 52 | u64::from(quiet) << 51;
-    *number = f64::from_bits(top | payload);
-    job
+    job.with_number(slot, f64::from_bits(top | payload))
 }
 
 /// A good job with something broken.

@@ -4,6 +4,7 @@
 mod families;
 mod grid;
 mod keyholes;
+mod pointed;
 mod random;
 mod reasons;
 mod steer;
@@ -11,6 +12,7 @@ mod steer;
 pub use families::{FAMILIES, Family, with_a_nan};
 pub use grid::{each_close_job, each_short_job};
 pub use keyholes::KEYHOLES;
+pub use pointed::POINTED;
 pub use random::Random;
 pub use reasons::REASONS;
 pub use steer::Steering;

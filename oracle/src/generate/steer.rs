@@ -4,7 +4,7 @@
 //! followed to where it turns; then the two neighbouring doubles are found by halving between
 //! their bit patterns. A tally for each test makes rare tests as frequent as common ones.
 
-use super::{FAMILIES, Random};
+use super::{FAMILIES, Family, POINTED, Random};
 use crate::stage::Job;
 use crate::traced::{Asked, Site, Trace, job as traced_job};
 
@@ -24,6 +24,10 @@ struct Aim {
 
 pub struct Steering {
     random: Random,
+    /// Where jobs are taken from.
+    families: &'static [Family],
+    /// What is aimed at.
+    sites: &'static [Site],
     /// For each test, jobs that answer it no and yes.
     pools: Vec<[Vec<Job>; 2]>,
     /// For each test, the turns found that change an answer.
@@ -35,16 +39,28 @@ pub struct Steering {
 }
 
 impl Steering {
+    /// In the round mode, at all its tests.
     pub fn new(seed: u64) -> Self {
-        let sites = Site::ALL.len();
+        Self::among(seed, FAMILIES, Site::ROUND)
+    }
+
+    /// In the pointed mode, at the tests that it alone asks.
+    pub fn pointed(seed: u64) -> Self {
+        Self::among(seed, POINTED, Site::POINTED)
+    }
+
+    fn among(seed: u64, families: &'static [Family], sites: &'static [Site]) -> Self {
+        let all = Site::ALL.len();
         let mut steering = Self {
             random: Random::new(seed),
-            pools: vec![[Vec::new(), Vec::new()]; sites],
-            turns: vec![0; sites],
-            idle: vec![0; sites],
-            aimed: vec![0; sites],
+            families,
+            sites,
+            pools: vec![[Vec::new(), Vec::new()]; all],
+            turns: vec![0; all],
+            idle: vec![0; all],
+            aimed: vec![0; all],
         };
-        for _ in 0..2000 * FAMILIES.len() {
+        for _ in 0..2000 * families.len() {
             steering.draw();
         }
         steering
@@ -52,7 +68,7 @@ impl Steering {
 
     /// Takes a random job into the pools of the tests that it asks.
     fn draw(&mut self) {
-        let (_, family) = self.random.pick(FAMILIES);
+        let (_, family) = self.random.pick(self.families);
         let job = family(&mut self.random);
         self.keep(&job);
     }
@@ -90,12 +106,12 @@ impl Steering {
         // Goes over to the other job number by number, until the answer changes.
         let answer = answer_of(&job, aim);
         let mut near = job;
-        let slots = near.source.len() + 2;
+        let slots = near.numbers();
         let first = self.random.below(slots);
         for slot in (0..slots).map(|i| (first + i) % slots) {
-            let far = with(&near, slot, value(&other, slot));
+            let far = near.with_number(slot, other.number(slot));
             if answer_of(&far, aim) != answer {
-                return self.between(&near, slot, value(&far, slot), aim);
+                return self.between(&near, slot, far.number(slot), aim);
             }
             near = far;
         }
@@ -114,7 +130,7 @@ impl Steering {
             }
         };
         let open = |site: &&Site| self.pools[**site as usize].iter().any(|p| !p.is_empty());
-        let mut order: Vec<Site> = Site::ALL.iter().filter(open).copied().collect();
+        let mut order: Vec<Site> = self.sites.iter().filter(open).copied().collect();
         order.sort_by_key(weight);
         let few = order.len().min(12);
         (few > 0).then(|| order[self.random.below(few)])
@@ -153,8 +169,8 @@ impl Steering {
         for _ in 0..PROBES {
             let mut other = job.clone();
             for _ in 0..=self.random.below(2) {
-                let slot = self.random.below(job.source.len() + 2);
-                other = with(&other, slot, self.moved(job, slot));
+                let slot = self.random.below(job.numbers());
+                other = other.with_number(slot, self.moved(job, slot));
             }
             if answer_of(&other, aim) == Some(!answer) {
                 return Some(other);
@@ -166,8 +182,8 @@ impl Steering {
     /// Another value for a number: near it, or that of another vertex, since no step that is not
     /// aimed makes two numbers equal.
     fn moved(&mut self, job: &Job, slot: usize) -> f64 {
-        let number = value(job, slot);
-        if slot >= 2 && self.random.one_in(4) {
+        let number = job.number(slot);
+        if (2..2 + job.source.len()).contains(&slot) && self.random.one_in(4) {
             let vertex = self.random.below(job.source.len() / 3);
             return job.source[3 * vertex + (slot - 2) % 3];
         }
@@ -178,11 +194,11 @@ impl Steering {
     /// Follows the margin of a test, by one number, to where it turns.
     fn followed(&mut self, job: &Job, aim: Aim) -> Option<Job> {
         let start = asked_of(job, aim)?;
-        let slot = self.random.below(job.source.len() + 2);
-        let (mut at, mut margin) = (value(job, slot), start.margin);
+        let slot = self.random.below(job.numbers());
+        let (mut at, mut margin) = (job.number(slot), start.margin);
         let mut step = at.abs().max(1e-3) * self.random.size(-9.0, -1.0) * self.random.sign();
         for _ in 0..PROBES {
-            let other = with(job, slot, at + step);
+            let other = job.with_number(slot, at + step);
             let Some(asked) = asked_of(&other, aim) else {
                 step /= 4.0;
                 continue;
@@ -206,16 +222,16 @@ impl Steering {
     /// goes two units to either side.
     fn between(&mut self, job: &Job, slot: usize, far: f64, aim: Aim) -> Vec<Job> {
         let answer = answer_of(job, aim);
-        let (mut low, mut high) = (key(value(job, slot)), key(far));
+        let (mut low, mut high) = (key(job.number(slot)), key(far));
         while low.abs_diff(high) > 1 {
             let middle = low.midpoint(high);
-            if answer_of(&with(job, slot, number(middle)), aim) == answer {
+            if answer_of(&job.with_number(slot, number(middle)), aim) == answer {
                 low = middle;
             } else {
                 high = middle;
             }
         }
-        let (below, above) = (with(job, slot, number(low)), with(job, slot, number(high)));
+        let [below, above] = [low, high].map(|key| job.with_number(slot, number(key)));
         let paths = (path(&below), path(&above));
         let turned = agree(&paths.0, &paths.1);
         // Another test than the one aimed at may have turned: it counts for what it is.
@@ -239,13 +255,14 @@ impl Steering {
         self.keep(&above);
         let step = high - low;
         (-2..=3)
-            .map(|units| with(job, slot, number(low.saturating_add(units * step))))
+            .map(|units| job.with_number(slot, number(low.saturating_add(units * step))))
             .collect()
     }
 
     /// The turns of the middling test.
     fn middling(&self) -> u64 {
-        let mut turns = self.turns.clone();
+        let turns = self.sites.iter().map(|site| self.turns[*site as usize]);
+        let mut turns: Vec<u64> = turns.collect();
         turns.sort_unstable();
         turns[turns.len() / 2]
     }
@@ -281,24 +298,6 @@ fn agree(a: &[Asked], b: &[Asked]) -> usize {
 fn matters(job: &Job, place: usize) -> bool {
     let plain = traced_job(&mut Trace::new(), job);
     plain != traced_job(&mut Trace::flipped(place), job)
-}
-
-fn value(job: &Job, slot: usize) -> f64 {
-    match slot {
-        0 => job.offset,
-        1 => job.eps,
-        _ => job.source[slot - 2],
-    }
-}
-
-fn with(job: &Job, slot: usize, number: f64) -> Job {
-    let mut job = job.clone();
-    match slot {
-        0 => job.offset = number,
-        1 => job.eps = number,
-        _ => job.source[slot - 2] = number,
-    }
-    job
 }
 
 /// The order of doubles as an order of whole numbers; the two zeros are one.

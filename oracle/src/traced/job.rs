@@ -1,4 +1,4 @@
-//! The job of 01 section 1, as 02's 2026-02 and 2026-09 amend it, with its tests recorded.
+//! The job of 01 section 1, as 02's 2026-02, 2026-09 and 2026-13 amend it, with its tests recorded.
 
 use super::joins::Setting;
 use super::moves::{Drawing, Walk};
@@ -42,8 +42,7 @@ pub fn job(trace: &mut Trace, job: &Job) -> (Answer, Vec<u64>) {
 
 /// Why each segment of a job's output is as it is. No room is asked for: the job is lent enough.
 pub fn whys(job: &Job) -> Whys {
-    let lent = Job::new(job.closed, job.offset, job.eps, job.source.clone());
-    match Trace::new().result(&lent) {
+    match Trace::new().result(&job.lent_enough()) {
         Result::Refused(number, place) => Err([number, place as u32]),
         Result::Drawn(drawing) => Ok(drawing.whys),
     }
@@ -71,7 +70,7 @@ fn answer(result: &Result) -> Answer {
 }
 
 fn write(job: &Job, result: &Result, lent: Lent) -> Answer {
-    let room = 2 * job.segments();
+    let room = job.need();
     let empty = Drawing::empty();
     let drawing = match result {
         Result::Refused(6, _) => &empty,
@@ -137,7 +136,7 @@ impl Trace {
         if self.ask(Site::Few, v < 2) {
             return Err(Result::Drawn(Drawing::empty()));
         }
-        let need = 2 * job.segments();
+        let need = job.need();
         if self.ask(Site::NoRoomVertices, job.room[0] / 3 < need)
             || self.ask(Site::NoRoomFlags, job.room[1] < need)
             || self.ask(Site::NoRoomIndexes, job.room[2] < need)
@@ -168,6 +167,7 @@ impl Trace {
         let set = Setting {
             offset: job.offset,
             eps: job.eps,
+            ratio: job.ratio,
         };
         Ok(Work {
             source,
@@ -210,6 +210,9 @@ impl Trace {
         {
             return Some(v + 1);
         }
-        None
+        let ratio = job.ratio?;
+        let taken = self.at_least(Site::RatioAtLeast, ratio, 1.0)
+            && self.at_most(Site::RatioAtMost, ratio, 10.0);
+        (!taken).then_some(v + 2)
     }
 }

@@ -17,6 +17,7 @@ pub(super) enum Cause {
     Missed,
     ZeroTangent,
     SameDirection,
+    Pointed,
 }
 
 /// Where the span before ends, where the span after starts, and what leads from one to the other.
@@ -33,6 +34,8 @@ pub(super) struct Join {
     /// By which rule an arc after was trimmed.
     pub start_rule: Option<Rule>,
     pub bulge: f64,
+    /// The point by which two straight connectors lead.
+    pub tip: Option<Vector2>,
 }
 
 impl Join {
@@ -48,6 +51,7 @@ impl Join {
             start_param: 0.0,
             start_rule: None,
             bulge: 0.0,
+            tip: None,
         }
     }
 }
@@ -77,11 +81,19 @@ type Meeting = (Vector2, Granted, Granted);
 /// A meeting, or the cause of the gap that there is for want of one.
 type Met = Result<Meeting, Cause>;
 
-/// Offset and ε of the job at hand.
+/// Offset and ε of the job at hand, and its ratio in the pointed mode.
 #[derive(Debug, Copy, Clone)]
 pub(super) struct Setting {
     pub offset: f64,
     pub eps: f64,
+    pub ratio: Option<f64>,
+}
+
+impl Setting {
+    pub fn round(offset: f64, eps: f64) -> Self {
+        let ratio = None;
+        Self { offset, eps, ratio }
+    }
 }
 
 /// The two candidates and what is recorded of the choice between them.
@@ -196,6 +208,12 @@ impl Trace {
             return None;
         }
         self.mark(Event::OuterRound);
+        if let Some(tip) = self.tip(set, [current, next], shared) {
+            return Some(Join {
+                tip: Some(tip),
+                ..Join::whole(Cause::Pointed, end, start)
+            });
+        }
         Some(self.round(set, Cause::Outer, [end, start], shared))
     }
 

@@ -3,6 +3,9 @@
 //! Written after 000 and 01, in another shape: the walk is a row of moves, and a vertex is drawn
 //! when a kept move leaves it. It is no second oracle: `compare` holds it against 000 on every job
 //! that it runs, and takes from it which tests a job asks and how they turn.
+//!
+//! 000 has no pointed mode. There this is the reference, with the point and its two moves after 02's
+//! 2026-13, and `compare pointed` holds all else in it to 000.
 
 mod arithmetic;
 mod job;
@@ -12,11 +15,12 @@ pub mod parts;
 mod rules;
 mod segments;
 mod sites;
+mod tip;
 mod why;
 
 pub use job::{job, stage, whys};
 pub use rules::{Rule, RuleTable};
-pub use sites::{EXPECTED, Event, Pair, Site};
+pub use sites::{EXPECTED, Event, POINTED, Pair, Site};
 pub use why::{Origin, Reason, Told, Why, Whys, told, why};
 
 /// A test, its answer, and how far the two numbers compared lie apart.
@@ -127,10 +131,23 @@ impl Table {
         }
     }
 
-    /// One line a test, then one line an event; what was never reached is marked.
+    /// One line a test, then one line an event, of the round mode; what was never reached is marked.
     pub fn print(&self) {
+        self.print_of(Site::ROUND, EXPECTED);
+        for (pair, event, count) in self.not_listed() {
+            let (pair, event) = (pair.text(), event.text());
+            println!("  {pair:9} {event:46} {count:>11}  <- not listed");
+        }
+    }
+
+    /// The same of the pointed mode alone.
+    pub fn print_pointed(&self) {
+        self.print_of(Site::POINTED, POINTED);
+    }
+
+    fn print_of(&self, sites: &[Site], listed: &[(Pair, &[Event])]) {
         println!("test: no, yes");
-        for site in Site::ALL {
+        for site in sites {
             let [no, yes] = self.sites[*site as usize];
             let mark = if no == 0 || yes == 0 {
                 "  <- one way only"
@@ -140,23 +157,20 @@ impl Table {
             println!("  {:44} {no:>11} {yes:>11}{mark}", site.text());
         }
         println!("event: count");
-        for (pair, events) in EXPECTED {
+        for (pair, events) in listed {
             for event in *events {
                 let count = self.events[*event as usize][*pair as usize];
                 let mark = if count == 0 { "  <- never" } else { "" };
                 println!("  {:9} {:46} {count:>11}{mark}", pair.text(), event.text());
             }
         }
-        for (pair, event, count) in self.not_listed() {
-            let (pair, event) = (pair.text(), event.text());
-            println!("  {pair:9} {event:46} {count:>11}  <- not listed");
-        }
     }
 
-    /// What happened though `EXPECTED` does not have it.
+    /// What happened though neither `EXPECTED` nor `POINTED` has it.
     pub fn not_listed(&self) -> Vec<(Pair, Event, u64)> {
         let listed = |pair, event| {
-            let mut rows = EXPECTED.iter().filter(|row| row.0 == pair);
+            let rows = EXPECTED.iter().chain(POINTED);
+            let mut rows = rows.filter(|row| row.0 == pair);
             rows.any(|row| row.1.contains(&event))
         };
         let mut found = Vec::new();

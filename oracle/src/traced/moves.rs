@@ -88,7 +88,7 @@ impl Trace {
             let shared = source.at(i + 1).pos();
             let join = self.join(set, &segments[i], &segments[i + 1], shared);
             moves.push(self.span(segments, i, [from, SpanEnd::before(&join)], join.end));
-            moves.push(connector(i, &join, join.start));
+            moves.extend(connectors(i, &join));
             from = SpanEnd::after(&join);
             joins.push(join);
         }
@@ -106,7 +106,7 @@ impl Trace {
         }
     }
 
-    /// The last span of a closed walk, and the closing connector unless the span closes it.
+    /// The last span of a closed walk, and the closing connectors unless the span closes it.
     fn closing(
         &mut self,
         set: Setting,
@@ -123,7 +123,9 @@ impl Trace {
         }
         self.mark(Event::ClosingConnector);
         let span = self.span(segments, last, ends, join.end);
-        vec![span, connector(last, join, join.start)]
+        std::iter::once(span)
+            .chain(connectors(last, join))
+            .collect()
     }
 
     /// The part of a segment between its two ends, as a move to `end`.
@@ -160,25 +162,24 @@ impl Trace {
     pub(super) fn draw(&mut self, set: Setting, walk: &Walk, closed: bool) -> Drawing {
         let mut drawing = Drawing::empty();
         let mut last = walk.start;
+        let mut kept = Vec::new();
         for (i, step) in walk.moves.iter().enumerate() {
             let closing = closed && i + 1 == walk.moves.len();
-            let sites = if closing {
-                [Site::CloseX, Site::CloseY]
-            } else {
-                [Site::DropX, Site::DropY]
-            };
+            let sites = walk.drop_sites(i, closing);
             let dropped = self.near(sites, last, step.end, set.eps);
             self.mark(fate(step, dropped));
             self.mark_if(
                 dropped && closing && !drawing.vertices.is_empty(),
                 Event::LastRemoved,
             );
+            kept.push(!dropped);
             if !dropped {
                 drawing.vertices.push([last.x, last.y, step.bulge]);
                 drawing.whys.push(step.why);
                 last = step.end;
             }
         }
+        self.mark_pairs(walk, &kept, closed);
         if drawing.vertices.is_empty() {
             self.mark(Event::NothingKept);
             return drawing;
@@ -198,17 +199,16 @@ impl Trace {
     }
 }
 
-/// The connector that a join after the segment `source` leads along.
-fn connector(source: usize, join: &Join, end: Vector2) -> Move {
-    Move {
-        end,
-        bulge: join.bulge,
-        why: Why {
-            origin: Origin::Connector(source),
-            reason: Reason::of_connector(join.cause),
-            rules: [None; 2],
-        },
-    }
+/// The connector that a join after the segment `source` leads along, or the two by its point.
+fn connectors(source: usize, join: &Join) -> impl Iterator<Item = Move> {
+    let why = Why {
+        origin: Origin::Connector(source),
+        reason: Reason::of_connector(join.cause),
+        rules: [None; 2],
+    };
+    let bulge = join.bulge;
+    let ends = join.tip.into_iter().chain([join.start]);
+    ends.map(move |end| Move { end, bulge, why })
 }
 
 fn fate(step: &Move, dropped: bool) -> Event {

@@ -30,7 +30,7 @@ pub struct Joined {
     pub pair: Pair,
     pub cause: &'static str,
     /// The precise cause: 0 coincident, 1 met, 2 outer turn, 3 reversal, 4 collapsed side, 5 no
-    /// meeting, 6 candidates missed, 7 zero tangent, 8 same direction.
+    /// meeting, 6 candidates missed, 7 zero tangent, 8 same direction, 9 pointed (of no fragment).
     pub number: u32,
     pub class: &'static str,
     pub end: Vector2,
@@ -75,7 +75,7 @@ impl Cause {
         match self {
             Self::Coincident => ("coincident", "Coincident"),
             Self::Met => ("inner", "Trimmed"),
-            Self::Outer => ("outer", "OuterRound"),
+            Self::Outer | Self::Pointed => ("outer", "OuterRound"),
             Self::Reversal => ("reversal", "ReversalRound"),
             Self::CollapsedSide | Self::NoMeeting | Self::Missed => ("inner", "InvalidInnerGap"),
             Self::ZeroTangent => ("zero_tangent", "InvalidDegenerateGap"),
@@ -171,10 +171,7 @@ impl Fragment {
 
     pub fn join(&self, trace: &mut Trace) -> Joined {
         let [current, next] = self.segments(trace);
-        let set = Setting {
-            offset: self.offset,
-            eps: self.eps,
-        };
+        let set = Setting::round(self.offset, self.eps);
         let join = trace.join(set, &current, &next, self.vertices[1].pos());
         joined(&join)
     }
@@ -245,23 +242,23 @@ pub fn span(v1: PlineVertex, v2: PlineVertex, offset: f64, from: f64, to: f64) -
 }
 
 pub fn line_param(param: f64, line: [Vector2; 2], eps: f64) -> Option<f64> {
-    Trace::new().usable_line_param(Setting { offset: 1.0, eps }, param, line)
+    Trace::new().usable_line_param(Setting::round(1.0, eps), param, line)
 }
 
 /// The parameter of a point of the arc's circle and the rule that grants it, unless it is missed.
 pub fn arc_param(numbers: &[f64; 9], point: Vector2, eps: f64) -> Option<(f64, Rule)> {
-    let set = Setting { offset: 1.0, eps };
+    let set = Setting::round(1.0, eps);
     let granted = Trace::new().usable_arc_param(set, &arc(numbers), point)?;
     granted.rule.map(|rule| (granted.param, rule))
 }
 
 pub fn equally_near(first: f64, second: f64, eps: f64) -> bool {
-    Trace::new().equally_near(Setting { offset: 1.0, eps }, first, second)
+    Trace::new().equally_near(Setting::round(1.0, eps), first, second)
 }
 
 /// The bulge of a round connector about `shared`.
 pub fn round(end: Vector2, start: Vector2, shared: Vector2, offset: f64) -> f64 {
-    let set = Setting { offset, eps: 1e-5 };
+    let set = Setting::round(offset, 1e-5);
     let join = Trace::new().round(set, Cause::Outer, [end, start], shared);
     join.bulge
 }
@@ -269,7 +266,7 @@ pub fn round(end: Vector2, start: Vector2, shared: Vector2, offset: f64) -> f64 
 /// What two sides come to, and whether a parameter on an arc was asked for at the last point tried.
 pub fn meeting(current: &Side, next: &Side, shared: Vector2, eps: f64) -> (Met, bool) {
     let mut trace = Trace::new();
-    let set = Setting { offset: 1.0, eps };
+    let set = Setting::round(1.0, eps);
     let met = trace.meeting(set, &current.segment(), &next.segment(), shared);
     let met = met.map(|(at, on_current, on_next)| Meets {
         at,

@@ -129,7 +129,24 @@ listed! {
         DropY = "emit_segment: end within eps in y",
         CloseX = "close_segment: last within eps of first in x",
         CloseY = "close_segment: last within eps of first in y",
+        RatioAtLeast = "pointed job: ratio at least 1",
+        RatioAtMost = "pointed job: ratio at most 10",
+        TipCrosses = "point: |D| >= eps",
+        TipWithin = "point: squared distance at most its bound",
+        TipX = "first of a pair: point within eps in x",
+        TipY = "first of a pair: point within eps in y",
+        TipNextX = "second of a pair: end within eps in x",
+        TipNextY = "second of a pair: end within eps in y",
+        TipCloseX = "closing pair: last within eps of first in x",
+        TipCloseY = "closing pair: last within eps of first in y",
     }
+}
+
+impl Site {
+    /// Those that the round mode asks, and those that the pointed mode alone asks.
+    const MODES: (&[Self], &[Self]) = Self::ALL.split_at(Self::RatioAtLeast as usize);
+    pub const ROUND: &[Self] = Self::MODES.0;
+    pub const POINTED: &[Self] = Self::MODES.1;
 }
 
 listed! {
@@ -235,6 +252,18 @@ listed! {
         ClosingConnector = "closing move is a connector",
         LastRemoved = "closing move dropped, last vertex removed",
         NothingKept = "nothing kept",
+        Tip = "OuterRound, pointed",
+        TipBehind = "OuterRound, pointed, t under 1",
+        TipFlat = "OuterRound, round: |D| under eps",
+        TipFar = "OuterRound, round: the point too far off",
+        PairKept = "pair: both moves kept",
+        FirstKept = "pair: the first move alone kept",
+        SecondKept = "pair: the second move alone kept",
+        NeitherKept = "pair: neither move kept",
+        ClosingPairKept = "closing pair: both moves kept",
+        ClosingFirstKept = "closing pair: the first alone, its vertex removed",
+        ClosingSecondKept = "closing pair: the second move alone kept",
+        ClosingNeitherKept = "closing pair: neither move kept",
     }
 }
 
@@ -385,5 +414,23 @@ pub const EXPECTED: &[(Pair, &[Event])] = &[
     (
         Pair::WithCollapsed,
         &[CollapsedCurrent, CollapsedNext, CollapsedBoth],
+    ),
+];
+
+/// What may happen besides in the pointed mode.
+pub const POINTED: &[(Pair, &[Event])] = &[
+    (Pair::LineLine, &[Tip, TipBehind, TipFlat, TipFar]),
+    (
+        Pair::NoJoin,
+        &[
+            PairKept,
+            FirstKept,
+            SecondKept,
+            NeitherKept,
+            ClosingPairKept,
+            ClosingFirstKept,
+            ClosingSecondKept,
+            ClosingNeitherKept,
+        ],
     ),
 ];

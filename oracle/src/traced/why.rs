@@ -37,10 +37,12 @@ pub enum Reason {
     ZeroTangent,
     SameDirection,
     Copied,
+    /// Of both moves, by 02's 2026-13.
+    Pointed,
 }
 
 impl Reason {
-    pub const COUNT: usize = 12;
+    pub const COUNT: usize = 13;
 
     /// By number, from 1 on.
     pub const NAMES: [&str; Self::COUNT] = [
@@ -56,10 +58,12 @@ impl Reason {
         "gap, zero tangent",
         "gap, same direction",
         "copied",
+        "pointed connector",
     ];
 
-    /// The numbers of those that a segment has: a meeting's connector leads nowhere, so it is dropped.
-    pub const KEPT: [usize; Self::COUNT - 1] = [1, 2, 3, 4, 5, 7, 8, 9, 10, 11, 12];
+    /// The numbers of those that a segment of the round mode has: a meeting's connector leads nowhere,
+    /// so it is dropped.
+    pub const KEPT: [usize; 11] = [1, 2, 3, 4, 5, 7, 8, 9, 10, 11, 12];
 
     pub(super) fn of_connector(cause: Cause) -> Self {
         match cause {
@@ -71,6 +75,7 @@ impl Reason {
             Cause::Missed => Self::Missed,
             Cause::ZeroTangent => Self::ZeroTangent,
             Cause::SameDirection => Self::SameDirection,
+            Cause::Pointed => Self::Pointed,
         }
     }
 
@@ -88,6 +93,7 @@ impl Reason {
             Self::ZeroTangent => 10,
             Self::SameDirection => 11,
             Self::Copied => 12,
+            Self::Pointed => 13,
         }
     }
 
@@ -97,7 +103,8 @@ impl Reason {
             Self::TurnedBack(_) | Self::Collapsed => true,
             Self::CollapsedSide | Self::NoMeeting | Self::Missed => true,
             Self::ZeroTangent | Self::SameDirection => true,
-            Self::InOrder | Self::Round | Self::Reversal | Self::Meeting | Self::Copied => false,
+            Self::InOrder | Self::Copied => false,
+            Self::Round | Self::Reversal | Self::Meeting | Self::Pointed => false,
         }
     }
 }

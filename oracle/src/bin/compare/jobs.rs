@@ -17,9 +17,14 @@ pub fn each_plain_job(seed: u64, random: u64, mut take: impl FnMut(&'static str,
     each_random_job(FAMILIES, seed, random, take);
 }
 
-/// Hands out the jobs of standard input, a row each, and says how many rows are none.
+/// Hands out the jobs of standard input, a row each, and says how many rows are none of the round mode.
 pub fn each_row(mut take: impl FnMut(&Job)) -> u64 {
-    each_line(|row| read_job(row).map(|job| take(&job)).is_some())
+    each_line(|row| read_round(row).map(|job| take(&job)).is_some())
+}
+
+/// Reads a job of the round mode, the only one that 000 has.
+pub fn read_round(row: &str) -> Option<Job> {
+    read_job(row).filter(|job| job.ratio.is_none())
 }
 
 /// Hands out the rows of standard input, and says how many were not taken.
@@ -72,13 +77,18 @@ pub fn each_steered_job(
     mut take: impl FnMut(&'static str, &Job),
 ) -> Steering {
     let mut steering = Steering::new(!seed);
+    steer(&mut steering, steered, |job| take("steered", job));
+    steering
+}
+
+/// Hands out about `steered` jobs of a steering.
+pub fn steer(steering: &mut Steering, steered: u64, mut take: impl FnMut(&Job)) {
     let (mut given, mut tries) = (0, 0);
     while given < steered && tries < 100 * steered {
         tries += 1;
         for job in steering.around_a_turn() {
             given += 1;
-            take("steered", &job);
+            take(&job);
         }
     }
-    steering
 }

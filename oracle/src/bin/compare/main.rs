@@ -19,6 +19,9 @@
 //! - `compare parts SEED RANDOM STEERED` asks the proved code for the part of each source segment of such
 //!   jobs, and of made-up lists, and holds it to 02's 2026-09; it lends each buffer a place too few.
 //! - `compare parts` does so for the jobs, and for the questions, that standard input holds.
+//! - `compare pointed SEED RANDOM STEERED` runs jobs of the pointed mode, 02's 2026-13, on the proved code
+//!   and on the traced job, with what is told of each output segment and each source segment's part.
+//! - `compare pointed` does so for the jobs that standard input holds, a row each.
 
 #[cfg(with_000)]
 mod cover;
@@ -34,6 +37,8 @@ mod near;
 mod newly;
 #[cfg(all(feature = "proved", with_000))]
 mod parts;
+#[cfg(all(feature = "proved", with_000))]
+mod pointed;
 #[cfg(all(feature = "layers", with_000))]
 mod rules;
 #[cfg(with_000)]
@@ -60,7 +65,7 @@ fn main() {
             eprintln!(
                 "usage: compare [cover] SEED RANDOM STEERED | bulk SEED JOBS | keyholes SEED JOBS \
                  | layers SEED COUNT | rules [SEED RANDOM STEERED] | why [SEED RANDOM STEERED] \
-                 | parts [SEED RANDOM STEERED] | rows"
+                 | parts [SEED RANDOM STEERED] | pointed [SEED RANDOM STEERED] | rows"
             );
             exit(2);
         }
@@ -105,6 +110,10 @@ fn run_jobs(mode: &str, numbers: &[u64]) -> Option<bool> {
         ("parts", [seed, random, steered]) => Some(parts::compare(*seed, *random, *steered)),
         #[cfg(feature = "proved")]
         ("parts", []) => Some(parts::rows()),
+        #[cfg(feature = "proved")]
+        ("pointed", [seed, random, steered]) => Some(pointed::compare(*seed, *random, *steered)),
+        #[cfg(feature = "proved")]
+        ("pointed", []) => Some(pointed::rows()),
         _ => None,
     }
 }

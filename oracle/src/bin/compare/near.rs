@@ -55,13 +55,18 @@ pub fn each_ruled_job(
 }
 
 /// The jobs of a list of samples.
-fn samples(list: &str) -> Vec<Job> {
+pub fn samples(list: &str) -> Vec<Job> {
     let rows = list.lines().filter(|row| !row.starts_with('#'));
     rows.map(|row| read_job(row).expect("a job")).collect()
 }
 
 /// Hands out `count` jobs of a list of samples with one or two of their numbers moved a little.
-fn each_near_sample(list: &str, seed: u64, count: u64, mut take: impl FnMut(&'static str, &Job)) {
+pub fn each_near_sample(
+    list: &str,
+    seed: u64,
+    count: u64,
+    mut take: impl FnMut(&'static str, &Job),
+) {
     let samples = samples(list);
     let mut random = Random::new(seed);
     for i in 0..count {

@@ -2,7 +2,7 @@
 //! jobs, on whole buffers, and on made-up lists. Outputs have to be what the request says of a done
 //! job, and each buffer is lent one place too few.
 
-use crate::jobs::each_line;
+use crate::jobs::{each_line, read_round};
 use crate::made::{Made, PAST_CODES};
 use crate::near::each_reasoned_job;
 use crate::sides::{SIDES, Tally};
@@ -10,7 +10,7 @@ use oracle::generate::Random;
 use oracle::part::{Output, PartAnswer, named};
 use oracle::proved;
 use oracle::stage::{Job, Outcome};
-use oracle::text::{any_job_row, part_row, read_job, read_part};
+use oracle::text::{any_job_row, part_row, read_part};
 
 /// Differences are printed up to this many.
 const SHOWN: u64 = 10;
@@ -108,7 +108,7 @@ impl Parts {
             self.ask(List::MadeUp, Output { n, flags, origins }, source);
             return true;
         }
-        let Some(job) = read_job(row) else {
+        let Some(job) = read_round(row) else {
             return false;
         };
         self.hold("rows", &job);
@@ -187,7 +187,7 @@ impl Parts {
     /// segment.
     fn hold_rooms(&mut self, job: &Job) {
         let mut exact = job.clone();
-        exact.lend(2 * job.segments());
+        exact.lend(job.need());
         let outcome = self.jobs.outcome("just enough", &exact, SIDES);
         let number = outcome.answer[0];
         if exact.room == [0; 4] {

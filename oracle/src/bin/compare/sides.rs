@@ -6,24 +6,29 @@ use oracle::generate::{KEYHOLES, each_close_job};
 use oracle::stage::{Before, Job, Outcome, Stage};
 use oracle::text::{any_job_row, outcome_row};
 
-/// What the reference of single joins is held to 000 by.
-pub const TRACED: (&str, Stage) = ("traced", oracle::traced::stage);
+/// A stage and its name.
+pub type Side = (&'static str, Stage);
+
+const BY_000: Side = ("000", oracle::job);
+
+/// What the reference of single joins is held to 000 by, and the reference of the pointed mode.
+pub const TRACED: Side = ("traced", oracle::traced::stage);
 
 /// What is held against 000.
-pub const SIDES: &[(&str, Stage)] = &[
+pub const SIDES: &[Side] = &[
     TRACED,
     #[cfg(feature = "proved")]
     PROVED,
 ];
 
 #[cfg(feature = "proved")]
-const PROVED: (&str, Stage) = ("proved", oracle::proved::job);
+pub const PROVED: Side = ("proved", oracle::proved::job);
 
 /// What is held against 000 in bulk: the proved code alone, where it is there.
 #[cfg(feature = "proved")]
-const IN_BULK: &[(&str, Stage)] = &[PROVED];
+const IN_BULK: &[Side] = &[PROVED];
 #[cfg(not(feature = "proved"))]
-const IN_BULK: &[(&str, Stage)] = SIDES;
+const IN_BULK: &[Side] = SIDES;
 
 /// Differences are printed up to this many.
 const SHOWN: u64 = 10;
@@ -45,30 +50,43 @@ pub struct Tally {
 impl Tally {
     /// Runs a job on 000 and on each of the sides. What no side may touch is held to what it was
     /// too, so that 000's own run can change nothing there.
-    pub fn hold(&mut self, family: &'static str, job: &Job, sides: &[(&str, Stage)]) {
+    pub fn hold(&mut self, family: &'static str, job: &Job, sides: &[Side]) {
         self.outcome(family, job, sides);
     }
 
     /// The same, and hands back what 000 answers.
-    pub fn outcome(&mut self, family: &'static str, job: &Job, sides: &[(&str, Stage)]) -> Outcome {
-        let expected = job.run_compared(oracle::job);
+    pub fn outcome(&mut self, family: &'static str, job: &Job, sides: &[Side]) -> Outcome {
+        self.outcome_by(BY_000, family, job, sides)
+    }
+
+    /// The same by another reference than 000.
+    pub fn outcome_by(
+        &mut self,
+        reference: Side,
+        family: &'static str,
+        job: &Job,
+        sides: &[Side],
+    ) -> Outcome {
+        let (by, stage) = reference;
+        let expected = job.run_compared(stage);
         let number = expected.answer[0] as usize;
         self.count(family, number);
         self.newly.count(job, &expected.answer);
         self.lent[number][job.before().which()] = true;
         if !expected.keeps(job, job.before()) {
-            self.differ("000 changes a place that stays", job, &expected, &expected);
+            let what = format!("{by} changes a place that stays");
+            self.differ(&what, job, (by, &expected), &expected);
         }
         for (name, side) in sides {
             let outcome = job.run_compared(*side);
             if outcome != expected {
-                self.differ(&format!("{name} differs"), job, &expected, &outcome);
+                self.differ(&format!("{name} differs"), job, (by, &expected), &outcome);
             }
         }
         expected
     }
 
-    fn differ(&mut self, what: &str, job: &Job, expected: &Outcome, outcome: &Outcome) {
+    fn differ(&mut self, what: &str, job: &Job, expected: (&str, &Outcome), outcome: &Outcome) {
         self.differing += 1;
         if self.differing <= SHOWN {
             show(what, job, expected, outcome);
@@ -124,10 +142,10 @@ fn print_counts(name: &str, counts: &[u64; NUMBERS]) {
     println!("  {name:30} {:>10} {numbers}", counts.iter().sum::<u64>());
 }
 
-fn show(what: &str, job: &Job, expected: &Outcome, outcome: &Outcome) {
+fn show(what: &str, job: &Job, (by, expected): (&str, &Outcome), outcome: &Outcome) {
     println!("{what}: {job:?}");
     println!("  job  {}", any_job_row(job));
-    println!("  000  {expected:?}");
+    println!("  {by:4} {expected:?}");
     println!("  here {outcome:?}");
 }
 

@@ -44,7 +44,7 @@ pub fn compare(seed: u64, random: u64, steered: u64) -> bool {
     });
     tally.print_families();
     println!("steered turns: changing an answer, changing none; ties changing an answer");
-    for site in Site::ALL {
+    for site in Site::ROUND {
         let i = *site as usize;
         let (turns, idle) = (steering.turns[i], steering.idle[i]);
         let ties = reach.ties[i];

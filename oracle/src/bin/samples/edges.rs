@@ -1,5 +1,5 @@
-//! Jobs at the edges of 01 section 1, as 02's 2026-02 and 2026-09 amend it: rooms, limits, refusals
-//! with their places and their order, short sources, and an offset of zero.
+//! Jobs at the edges of 01 section 1, as 02's 2026-02, 2026-09 and 2026-13 amend it: rooms, limits,
+//! refusals with their places and their order, short sources, and an offset of zero.
 
 use oracle::stage::{Job, Places};
 
@@ -216,6 +216,96 @@ pub fn zeros() -> Vec<Job> {
             jobs.push(Job::new(closed, offset, EPS, source[1..].concat()));
         }
     }
+    jobs
+}
+
+const SQUARE: [[f64; 3]; 4] = [
+    [0.0, 0.0, 0.0],
+    [4.0, 0.0, 0.0],
+    [4.0, 4.0, 0.0],
+    [0.0, 4.0, 0.0],
+];
+
+/// A line and a circle meet at no number.
+const NOT_FINITE: [[f64; 3]; 3] = [
+    [5.0, 0.0, 0.6180339887498949],
+    [-3.0, 4.0, 0.0],
+    [5.0, 4.0, 0.0],
+];
+
+/// To lend any room to in the pointed mode: one that draws 3n vertices, an open one, one with nothing
+/// drawn, a copy, and one that is not finite.
+fn pointed_lendable() -> [Job; 5] {
+    let square = |offset| Job::new(true, offset, EPS, SQUARE.concat()).pointed(2.0);
+    let not_finite = Job {
+        eps: 4.7683715820312495e-7,
+        ..open(&NOT_FINITE, 0.5000002384185791)
+    };
+    [
+        square(-1.0),
+        open(&SQUARE, -1.0).pointed(2.0),
+        square(2.0),
+        square(0.0),
+        not_finite.pointed(2.0),
+    ]
+}
+
+/// Each buffer around 3n by itself, all of them, and what the round mode needs.
+pub fn pointed_rooms() -> Vec<Job> {
+    let mut jobs = Vec::new();
+    for job in pointed_lendable() {
+        let need = job.need();
+        for count in [0, 2 * job.segments(), need - 1, need, need + 2] {
+            let mut lent = job.clone();
+            lent.lend(count);
+            jobs.push(lent);
+        }
+        for room in [
+            [3 * need - 1, need, need, need],
+            [3 * need, need - 1, need, need],
+            [3 * need, need, need - 1, need],
+            [3 * need, need, need, need - 1],
+            [3 * need + 2, need + 1, need + 3, need + 2],
+        ] {
+            jobs.push(lent(&job, room));
+        }
+    }
+    jobs
+}
+
+/// Ratios at both limits and next to them, and such as lie in no range: of a corner, of a copy, and
+/// without a segment. No. 3 comes before Nos. 4 and 5; the offset and ε come before the ratio.
+pub fn ratios() -> Vec<Job> {
+    let ratios = around(1.0, 10.0);
+    let mut jobs = Vec::new();
+    for ratio in ratios.into_iter().chain([0.0, -0.0, -1.0, -10.0, TINY]) {
+        jobs.push(open(&SQUARE[..3], -1.0).pointed(ratio));
+    }
+    for ratio in [1.0, 10.0, 1.0_f64.next_down(), 10.0_f64.next_up(), f64::NAN] {
+        for closed in [false, true] {
+            jobs.push(Job::new(closed, -0.0, EPS, SQUARE.concat()).pointed(ratio));
+            jobs.push(Job::new(closed, 1.0, EPS, Vec::new()).pointed(ratio));
+            jobs.push(Job::new(closed, 0.0, EPS, SQUARE[0].to_vec()).pointed(ratio));
+        }
+    }
+    let repeated = open(&[SQUARE[0], SQUARE[0], SQUARE[1]], 1.0);
+    for (ratio, offset, eps) in [
+        (2.0, 1.0, EPS),
+        (INF, 1.0, EPS),
+        (INF, 1.0, 0.0),
+        (INF, INF, 0.0),
+    ] {
+        let job = Job {
+            offset,
+            eps,
+            ..repeated.clone()
+        };
+        jobs.push(job.pointed(ratio));
+        jobs.push(lent(&job.pointed(ratio), [0; 4]));
+    }
+    let mut ragged = repeated.pointed(0.0);
+    ragged.source.pop();
+    jobs.push(ragged);
     jobs
 }
 

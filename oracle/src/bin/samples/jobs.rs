@@ -12,6 +12,9 @@ const RULES: &str = include_str!("rules.txt");
 /// Jobs that reach each reason why a segment's flag is set or clear.
 const REASONS: &str = include_str!("why.txt");
 
+/// Jobs of the pointed mode: its settled points and every branch.
+const POINTED: &str = include_str!("pointed.txt");
+
 /// Each job of the two lists.
 pub fn all() -> impl Iterator<Item = Job> {
     JOBS.iter().flat_map(|list| listed(list))
@@ -25,6 +28,11 @@ pub fn of_rules() -> impl Iterator<Item = Job> {
 /// Each job of the list for reasons.
 pub fn of_reasons() -> impl Iterator<Item = Job> {
     listed(REASONS)
+}
+
+/// Each job of the list for the pointed mode.
+pub fn of_pointed() -> impl Iterator<Item = Job> {
+    listed(POINTED)
 }
 
 fn listed(list: &'static str) -> impl Iterator<Item = Job> {

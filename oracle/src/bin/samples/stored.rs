@@ -1,14 +1,15 @@
 //! The stored input and output of the program that works whole jobs.
 //!
 //! The input is words of eight bytes, highest byte first: the count of rows, then for each row the
-//! numbers of its source, closed, offset, ε, the four rooms, and the source. The output has a line
-//! for each, then for four long jobs that the program makes itself.
+//! numbers of its source, closed, offset, ε, the four rooms, and the source; of the pointed mode, closed
+//! is 2 or 3 and the ratio comes after ε. The output has a line for each, then for four long jobs that
+//! the program makes itself.
 
 use crate::{edges, jobs};
-use oracle::generate::{FAMILIES, Random, Steering};
+use oracle::generate::{FAMILIES, Family, POINTED, Random, Steering};
 use oracle::newly::newly_accepted;
-use oracle::stage::{Job, Outcome, Places};
-use oracle::text::bits;
+use oracle::stage::{Job, Outcome, Places, Stage};
+use oracle::text::{bits, mode};
 use oracle::traced::{Site, Table, Trace, job as traced_job};
 use std::fmt::Write;
 use std::path::Path;
@@ -27,6 +28,7 @@ const OF_A_FAMILY: usize = 4;
 
 /// How often a turn is looked for.
 const TRIES: usize = 20_000;
+const POINTED_TRIES: usize = 2000;
 
 const SEED: u64 = 9;
 
@@ -41,15 +43,26 @@ pub fn write(folder: &Path) -> io::Result<()> {
         ("refusals and their order", edges::refusals()),
         ("short and ragged", edges::short()),
         ("offset zero and next to it", edges::zeros()),
-        ("random", random()),
-        ("either side of a turn", steered()),
+        ("random", random(FAMILIES)),
+        ("either side of a turn", steered(Steering::new(SEED), TRIES)),
         ("rooms for origins", edges::origins()),
+        (
+            "pointed: settled points and every branch",
+            jobs::of_pointed().collect(),
+        ),
+        ("pointed: rooms", edges::pointed_rooms()),
+        ("pointed: ratios", edges::ratios()),
+        ("pointed: random", random(POINTED)),
+        (
+            "pointed: either side of a turn",
+            steered(Steering::pointed(SEED), POINTED_TRIES),
+        ),
     ];
     for (name, jobs) in &kinds {
         println!("{name:44} {:>5}", jobs.len());
     }
     let rows: Vec<Job> = kinds.into_iter().flat_map(|(_, jobs)| jobs).collect();
-    let newly = |job: &&Job| newly_accepted(job, job.run(oracle::job).answer[0]).is_some();
+    let newly = |job: &&Job| newly_accepted(job, job.run(reference(job)).answer[0]).is_some();
     println!("{:44} {:>5}", "in all", rows.len());
     let count = rows.iter().filter(newly).count();
     println!("{:44} {count:>5}", "of them newly accepted by 2026-02");
@@ -58,7 +71,7 @@ pub fn write(folder: &Path) -> io::Result<()> {
     let mut output = String::new();
     for job in &rows {
         input.extend(packed(job));
-        output += &line(&job.run_among(SHORT, oracle::job));
+        output += &line(&job.run_among(SHORT, reference(job)));
     }
     for job in long() {
         output += &line(&job.run_among(LONG, oracle::job));
@@ -67,14 +80,19 @@ pub fn write(folder: &Path) -> io::Result<()> {
     fs::write(folder.join("stdout"), output)
 }
 
+/// 000, which has the round mode alone, and the traced job for the pointed mode.
+fn reference(job: &Job) -> Stage {
+    match job.ratio {
+        None => oracle::job,
+        Some(_) => oracle::traced::stage,
+    }
+}
+
 fn packed(job: &Job) -> Vec<u8> {
     assert!(fits(job), "no place for {job:?}");
-    let mut words = vec![
-        job.source.len() as u64,
-        job.closed.into(),
-        job.offset.to_bits(),
-        job.eps.to_bits(),
-    ];
+    let mut words = vec![job.source.len() as u64, mode(job).into()];
+    words.extend([job.offset, job.eps].map(f64::to_bits));
+    words.extend(job.ratio.map(f64::to_bits));
     words.extend(job.room.map(|count| count as u64));
     words.extend(job.source.iter().map(|number| number.to_bits()));
     words.into_iter().flat_map(u64::to_be_bytes).collect()
@@ -137,10 +155,10 @@ fn long() -> impl Iterator<Item = Job> {
         })
 }
 
-fn random() -> Vec<Job> {
+fn random(families: &[Family]) -> Vec<Job> {
     let mut source = Random::new(SEED);
     let mut jobs = Vec::new();
-    for (_, family) in FAMILIES {
+    for (_, family) in families {
         let drawn: Vec<Job> = (0..100).map(|_| family(&mut source)).collect();
         jobs.extend(drawn.into_iter().filter(fits).take(OF_A_FAMILY));
     }
@@ -148,11 +166,10 @@ fn random() -> Vec<Job> {
 }
 
 /// For each test that can be found to turn an answer, the two neighbouring doubles where it does.
-fn steered() -> Vec<Job> {
-    let mut steering = Steering::new(SEED);
+fn steered(mut steering: Steering, tries: usize) -> Vec<Job> {
     let mut jobs = Vec::new();
     let mut seen = vec![false; Site::ALL.len()];
-    for _ in 0..TRIES {
+    for _ in 0..tries {
         let before = steering.turns.clone();
         let six = steering.around_a_turn();
         let turned = steering.turns.iter().zip(&before).position(|(n, m)| n > m);
@@ -175,4 +192,5 @@ fn print_reached(rows: &[Job]) {
         table.add(&trace);
     }
     table.print();
+    table.print_pointed();
 }

@@ -1,12 +1,13 @@
 //! The stored input and output of the program that tells reasons.
 //!
 //! The input is words of eight bytes, highest byte first: the count of jobs, then for each the numbers of
-//! its source, closed, offset, ε, and the source. The output has a line for each segment in turn, one for
+//! its source, closed, offset, ε, and the source; of the pointed mode, closed is 2 or 3 and the ratio comes
+//! after ε. The output has a line for each segment in turn, one for
 //! the first number that is none, and one for the largest: the answer, then both parameters.
 
 use crate::jobs;
 use oracle::stage::Job;
-use oracle::text::exact;
+use oracle::text::{exact, mode};
 use oracle::traced::{Reason, Whys, told, whys};
 use std::fmt::Write;
 use std::path::Path;
@@ -16,7 +17,7 @@ use std::{fs, io};
 const SOURCE: usize = 128;
 
 pub fn write(folder: &Path) -> io::Result<()> {
-    let jobs: Vec<Job> = jobs::of_reasons().collect();
+    let jobs: Vec<Job> = jobs::of_reasons().chain(jobs::of_pointed()).collect();
     let mut input = (jobs.len() as u64).to_be_bytes().to_vec();
     let mut output = String::new();
     let mut reasons = [0; Reason::COUNT];
@@ -38,12 +39,9 @@ pub fn write(folder: &Path) -> io::Result<()> {
 
 fn packed(job: &Job) -> Vec<u8> {
     assert!(job.source.len() <= SOURCE, "no place for {job:?}");
-    let mut words = vec![
-        job.source.len() as u64,
-        job.closed.into(),
-        job.offset.to_bits(),
-        job.eps.to_bits(),
-    ];
+    let mut words = vec![job.source.len() as u64, mode(job).into()];
+    words.extend([job.offset, job.eps].map(f64::to_bits));
+    words.extend(job.ratio.map(f64::to_bits));
     words.extend(job.source.iter().map(|number| number.to_bits()));
     words.into_iter().flat_map(u64::to_be_bytes).collect()
 }
