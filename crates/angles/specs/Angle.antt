@@ -31,6 +31,7 @@ halve x = x ⊘ (one ⊕ sqrtOf (one ⊕ x ⊗ x))
 
 -- atan where |x| ≤ 1: halved three times, then 8·(x·Horner in x·x)
 unfoldable pub atanSmall : Float → Float
+unfolding atanTable
 atanSmall x =
     let h = halve (halve (halve x)) in
     eight ⊗ (h ⊗ horner atanTable (h ⊗ h))
@@ -49,6 +50,7 @@ tanStep t = (t ⊕ t) ⊘ (one ⊖ t ⊗ t)
 
 -- tan: y = x/8, s and c by the two series in y·y, t = s/c, doubled three times
 unfoldable pub tanEighth : Float → Float
+unfolding sinTable cosTable
 tanEighth x =
     let y = x ⊘ eight in
     let s = y ⊗ horner sinTable (y ⊗ y) in

@@ -1,63 +1,45 @@
--- π and the three tables of coefficients (01 §3, the lines on π and on atan and tan). Definitions only.
+-- π and the coefficients of the three series (01 §3, the lines on π and on atan and tan). Each is written as a fraction and is the double nearest to it: `round binary64 s n d` is n/d,
+-- with a minus where s is true, rounded to the nearest. Definitions only.
 use mathlib.Core.List.{List, [], _∷_}
-use Prim.Native.Nat.{ℕ, zero, suc, _*_, _%_}
+use mathlib.Core.Bool.{false}
+use Prim.Native.Nat.{ℕ, zero, suc, _+_, _*_, _%_, _^_}
 use lib.Dec.{eqb}
-use lib.Ieee.{Float, binary64, ofBits, round}
+use lib.Ieee.{Float, binary64, round}
 
--- the doubles nearest to π, π/2 and 2π
+-- π to twenty decimals, in units of the last. The decimals that are left out change none of the three doubles (proofs/Tables.antt).
+abbrev pub piDigits : ℕ
+piDigits = 3_14159_26535_89793_23846
+
 abbrev pub pi : Float
-pi = ofBits binary64 0x4009_21fb_5444_2d18
+pi = round binary64 false piDigits (10 ^ 20)
 
 abbrev pub halfPi : Float
-halfPi = ofBits binary64 0x3ff9_21fb_5444_2d18
+halfPi = round binary64 false piDigits (2 * 10 ^ 20)
 
 abbrev pub twoPi : Float
-twoPi = ofBits binary64 0x4019_21fb_5444_2d18
-
--- Each table stands with the highest power first.
-abbrev pub atanTable : List Float
-atanTable =
-    ofBits binary64 0x3fae_1e1e_1e1e_1e1e ∷
-    ofBits binary64 0xbfb1_1111_1111_1111 ∷
-    ofBits binary64 0x3fb3_b13b_13b1_3b14 ∷
-    ofBits binary64 0xbfb7_45d1_745d_1746 ∷
-    ofBits binary64 0x3fbc_71c7_1c71_c71c ∷
-    ofBits binary64 0xbfc2_4924_9249_2492 ∷
-    ofBits binary64 0x3fc9_9999_9999_999a ∷
-    ofBits binary64 0xbfd5_5555_5555_5555 ∷
-    ofBits binary64 0x3ff0_0000_0000_0000 ∷
-    []
-
-abbrev pub sinTable : List Float
-sinTable =
-    ofBits binary64 0xbd6a_e7f3_e733_b81f ∷
-    ofBits binary64 0x3de6_1246_13a8_6d09 ∷
-    ofBits binary64 0xbe5a_e645_67f5_44e4 ∷
-    ofBits binary64 0x3ec7_1de3_a556_c734 ∷
-    ofBits binary64 0xbf2a_01a0_1a01_a01a ∷
-    ofBits binary64 0x3f81_1111_1111_1111 ∷
-    ofBits binary64 0xbfc5_5555_5555_5555 ∷
-    ofBits binary64 0x3ff0_0000_0000_0000 ∷
-    []
-
-abbrev pub cosTable : List Float
-cosTable =
-    ofBits binary64 0xbda9_3974_a8c0_7c9d ∷
-    ofBits binary64 0x3e21_eed8_eff8_d898 ∷
-    ofBits binary64 0xbe92_7e4f_b778_9f5c ∷
-    ofBits binary64 0x3efa_01a0_1a01_a01a ∷
-    ofBits binary64 0xbf56_c16c_16c1_6c17 ∷
-    ofBits binary64 0x3fa5_5555_5555_5555 ∷
-    ofBits binary64 0xbfe0_0000_0000_0000 ∷
-    ofBits binary64 0x3ff0_0000_0000_0000 ∷
-    []
-
--- What the tables are held to (proofs/Tables.antt): the doubles nearest to (−1)^k / d k, for k from n − 1 down to 0.
-unfoldable pub nearestTable : (ℕ → ℕ) → ℕ → List Float
-nearestTable d zero = []
-nearestTable d (suc k) = round binary64 (eqb (k % 2) 1) 1 (d k) ∷ nearestTable d k
+twoPi = round binary64 false (2 * piDigits) (10 ^ 20)
 
 -- n!
 unfoldable pub factorial : ℕ → ℕ
 factorial zero = 1
 factorial (suc n) = suc n * factorial n
+
+-- (−1)^k / d k for each k below n, the highest k first: the coefficients of a series, the highest power first
+unfoldable pub coefficients : (ℕ → ℕ) → ℕ → List Float
+coefficients d zero = []
+coefficients d (suc k) = round binary64 (eqb (k % 2) 1) 1 (d k) ∷ coefficients d k
+
+-- 1/17, −1/15, 1/13, −1/11, 1/9, −1/7, 1/5, −1/3, 1
+unfoldable pub atanTable : List Float
+unfolding coefficients
+atanTable = coefficients (λ (k : ℕ). 2 * k + 1) 9
+
+-- −1/15!, 1/13!, −1/11!, 1/9!, −1/7!, 1/5!, −1/3!, 1
+unfoldable pub sinTable : List Float
+unfolding coefficients factorial
+sinTable = coefficients (λ (k : ℕ). factorial (2 * k + 1)) 8
+
+-- −1/14!, 1/12!, −1/10!, 1/8!, −1/6!, 1/4!, −1/2!, 1
+unfoldable pub cosTable : List Float
+unfolding coefficients factorial
+cosTable = coefficients (λ (k : ℕ). factorial (2 * k)) 8
