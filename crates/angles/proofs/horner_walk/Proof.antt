@@ -3,17 +3,17 @@ use mathlib.Core.Path.{_≡_, _∙_}
 use Prim.Native.Nat.{_-_}
 use native.Mathlib.Omega.{arith}
 use borrow.Author.Needs.{needs}
-use lib.ListN.{length, drop}
+use lib.ListN.{drop}
 use Rattle.angles.specs.Angle.{hornerFrom, horner}
 use Rattle.angles.proofs.Walk.{walk-start, walk-next, walk-end}
 use Rattle.angles.proofs.horner_walk.Statement.{statement}
 use Rattle.angles.proofs.horner_walk.Tie as tie
 
 abbrev Inv-loop : tie.InvT-loop
-Inv-loop table x a₀ i₀ a i = hornerFrom a (drop i table) x ≡ horner table x
+Inv-loop table x a₀ i₀ i-end a i = hornerFrom a (drop i table) x ≡ horner table x
 
 abbrev μ-loop : tie.MeasureT-loop
-μ-loop table x a₀ i₀ a i = length table - i
+μ-loop table x a₀ i₀ i-end a i = i-end - i
 
 loop-holds : tie.Need-loop-holds Inv-loop μ-loop
 loop-holds c = walk-start _ _ (search needs)
@@ -27,4 +27,4 @@ returns c = walk-end _ _ _ _ (c .loop-test .left) ∙ c .before .loop .inv
 pub horner-walk-spec : {M : Type 1} → statement M
 horner-walk-spec =
     tie.close
-    (tie.spec Inv-loop μ-loop (λ c. search needs) loop-holds (λ c. search needs) (λ c. search needs) (λ c κs. tt) (λ c. search needs) (λ c. omega arith) loop-again returns)
+    (tie.spec Inv-loop μ-loop (λ c. search needs) loop-holds (λ c. search needs) (λ c. omega arith) (λ c κs. tt) (λ c. omega arith) (λ c. omega arith) loop-again returns)
