@@ -6,8 +6,8 @@ use Rattle.floats.specs.Binary64.{_⊖_, _⊘_, zero, one}
 use Rattle.floats.specs.Choice.{when_give_else_, _and_}
 use Rattle.floats.specs.Size.{absOf}
 use Rattle.floats.proofs.Choice.{no}
-use Rattle.angles.specs.Angle.{halve, atanSmall, quarterTurn, atanOf, wideAngle, directionOf}
-use Rattle.angles.specs.InnerSteps.{series, reduced, restored, slope, wideBy, directionBy}
+use Rattle.angles.specs.Angle.{halve, atanByEighth, atanSmall, quarterTurn, atanOf, wideAngle, directionOf}
+use Rattle.angles.specs.InnerSteps.{reduced, restored, slope, directionBy}
 use Rattle.angles.proofs.Gentle.{gentle-slope}
 
 atan-by :
@@ -21,18 +21,18 @@ pub atan-restored : (x : Float) → restored x (atanSmall (reduced x)) ≡ atanO
 unfolding reduced restored atanOf
 atan-restored x = atan-by (lt one (absOf x)) x
 
-pub small-steps : (x : Float) → series (halve (halve (halve x))) ≡ atanSmall x
-unfolding series atanSmall
+pub small-steps : (x : Float) → atanByEighth (halve (halve (halve x))) ≡ atanSmall x
+unfolding atanSmall
 small-steps x = refl
 
-pub atan-steps : (x : Float) → restored x (series (halve (halve (halve (reduced x))))) ≡ atanOf x
+pub atan-steps : (x : Float) → restored x (atanByEighth (halve (halve (halve (reduced x))))) ≡ atanOf x
 atan-steps x = ap (restored x) (small-steps (reduced x)) ∙ atan-restored x
 
 direction-by :
     (none wide : Bool) (x y : Float) →
-    (let a = atanOf (when wide give y ⊘ x else x ⊘ y) in when none give zero else when wide give wideBy x y a else quarterTurn y ⊖ a)
-    ≡ when none give zero else when wide give wideAngle x y else quarterTurn y ⊖ atanOf (x ⊘ y)
-unfolding when_give_else_ wideBy wideAngle
+    (let a = atanOf (when wide give y ⊘ x else x ⊘ y) in when none give zero else when wide give wideAngle x y a else quarterTurn y ⊖ a)
+    ≡ when none give zero else when wide give wideAngle x y (atanOf (y ⊘ x)) else quarterTurn y ⊖ atanOf (x ⊘ y)
+unfolding when_give_else_
 direction-by true wide x y = refl
 direction-by false true x y = refl
 direction-by false false x y = refl

@@ -1,4 +1,4 @@
--- atan, tan, the angle of a point, and bulge to sweep and back (01 §3, its last two lines). Expressions are worked left to right as they stand. Definitions only.
+-- atan, tan, the angle of a point, and bulge to sweep and back (01 §3, its last two lines). Products and quotients come before sums and differences, otherwise the left step comes first, and each step is rounded; `lt a b` is a < b, and `le a b` is a ≤ b. Definitions only.
 use mathlib.Core.List.{List, [], _∷_}
 use lib.Ieee.{Float, neg, lt, le, eq}
 use Rattle.floats.specs.Binary64.{_⊕_, _⊖_, _⊗_, _⊘_, zero, one, four, eight}
@@ -19,7 +19,7 @@ unfolding hornerStep
 hornerFrom a [] x = a
 hornerFrom a (c ∷ cs) x = hornerFrom (hornerStep a c x) cs x
 
--- a table's value at x: the highest coefficient is where the steps start
+-- a table's value at x: the highest coefficient is where the steps start (no table is empty)
 unfoldable pub horner : List Float → Float → Float
 unfolding hornerFrom
 horner [] x = zero
@@ -29,18 +29,21 @@ horner (c ∷ cs) x = hornerFrom c cs x
 unfoldable pub halve : Float → Float
 halve x = x ⊘ (one ⊕ sqrtOf (one ⊕ x ⊗ x))
 
--- atan where |x| ≤ 1: halved three times, then 8·(x·Horner in x·x)
-unfoldable pub atanSmall : Float → Float
+-- 8·(x·Horner in x·x): the angle of whose eighth x is the tangent
+unfoldable pub atanByEighth : Float → Float
 unfolding atanTable
-atanSmall x =
-    let h = halve (halve (halve x)) in
-    eight ⊗ (h ⊗ horner atanTable (h ⊗ h))
+atanByEighth x = eight ⊗ (x ⊗ horner atanTable (x ⊗ x))
+
+-- atan where |x| ≤ 1: three times x ← x/(1+√(1+x·x)), then the series
+unfoldable pub atanSmall : Float → Float
+unfolding atanByEighth
+atanSmall x = atanByEighth (halve (halve (halve x)))
 
 -- ±π/2, minus only below zero
 unfoldable pub quarterTurn : Float → Float
 quarterTurn x = when lt x zero give neg halfPi else halfPi
 
--- atan: |x| > 1 gives ±π/2 − atan(1/x), and there |1/x| ≤ 1
+-- atan: |x| > 1 gives ±π/2 − atan(1/x), and there |1/x| ≤ 1 (proofs/Turned.antt has it in 01's words)
 unfoldable pub atanOf : Float → Float
 atanOf x = when lt one (absOf x) give quarterTurn x ⊖ atanSmall (one ⊘ x) else atanSmall x
 
@@ -48,7 +51,7 @@ atanOf x = when lt one (absOf x) give quarterTurn x ⊖ atanSmall (one ⊘ x) el
 unfoldable pub tanStep : Float → Float
 tanStep t = (t ⊕ t) ⊘ (one ⊖ t ⊗ t)
 
--- tan: y = x/8, s and c by the two series in y·y, t = s/c, doubled three times
+-- the tangent of an eighth of x: y = x/8, s and c by the two series in y·y, s/c
 unfoldable pub tanEighth : Float → Float
 unfolding sinTable cosTable
 tanEighth x =
@@ -57,23 +60,23 @@ tanEighth x =
     let c = horner cosTable (y ⊗ y) in
     s ⊘ c
 
+-- three times t ← (t+t)/(1−t·t)
 unfoldable pub tanByEighth : Float → Float
 tanByEighth t = tanStep (tanStep (tanStep t))
 
+-- tan: t = s/c, and then the three steps
 unfoldable pub tanOf : Float → Float
 tanOf x = tanByEighth (tanEighth x)
 
--- the angle of (x, y) where |x| ≥ |y|: atan(y/x), for x < 0 plus π if y ≥ 0, else minus π
-unfoldable pub wideAngle : Float → Float → Float
-wideAngle x y =
-    let a = atanOf (y ⊘ x) in
-    when lt x zero give (when le zero y give a ⊕ pi else a ⊖ pi) else a
+-- the angle of (x, y) where |x| ≥ |y|, from a = atan(y/x): a, for x < 0 plus π if y ≥ 0, else minus π
+unfoldable pub wideAngle : Float → Float → Float → Float
+wideAngle x y a = when lt x zero give (when le zero y give a ⊕ pi else a ⊖ pi) else a
 
--- the angle of (x, y): 0 if both are 0, then by |x| ≥ |y|, otherwise ±π/2 − atan(x/y), minus only if y < 0
+-- the angle of (x, y): 0 if both are 0; where |x| ≥ |y| by atan(y/x); otherwise ±π/2 − atan(x/y), minus only if y < 0
 unfoldable pub directionOf : Float → Float → Float
 directionOf x y =
     when eq x zero and eq y zero give zero else
-    when le (absOf y) (absOf x) give wideAngle x y else quarterTurn y ⊖ atanOf (x ⊘ y)
+    when le (absOf y) (absOf x) give wideAngle x y (atanOf (y ⊘ x)) else quarterTurn y ⊖ atanOf (x ⊘ y)
 
 -- 000's angle(center, point): that of point less centre
 unfoldable pub angleOf : Vector2 → Vector2 → Float

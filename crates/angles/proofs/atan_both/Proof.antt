@@ -7,9 +7,9 @@ pub atan-both-spec : {M : Type 1} → statement M
 atan-both-spec = tie.close (tie.spec (λ c κs. tt) (λ c κs. tt) (λ c κs. tt) (λ c κs. tt) (λ c κs. tt) (λ c κs. tt) (λ c κs. tt) (λ c κs. tt) (λ c κs. tt) (λ c κs. tt) (λ c κs. tt) (λ c κs. tt)
     (λ c κs. tt) (λ c κs. tt) (λ c. simp (
       c .restored2 .ensures,
-      c .before .series2 .ensures,
+      c .before .atan-by-eighth2 .ensures,
       c .before .before .restored .ensures,
-      c .before .before .before .series .ensures,
+      c .before .before .before .atan-by-eighth .ensures,
       c .before .before .before .before .halve6 .ensures,
       c .before .before .before .before .before .halve5 .ensures,
       c .before .before .before .before .before .before .halve4 .ensures,

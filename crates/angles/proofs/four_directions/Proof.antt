@@ -7,10 +7,10 @@ returns : tie.Need-returns
 returns c =
     let atans = c .before .before .before .before in
     simp (
-      c .direction4 .ensures,
-      c .before .direction3 .ensures,
-      c .before .before .direction2 .ensures,
-      c .before .before .before .direction .ensures,
+      c .direction-by4 .ensures,
+      c .before .direction-by3 .ensures,
+      c .before .before .direction-by2 .ensures,
+      c .before .before .before .direction-by .ensures,
       atans .small-four .ensures,
       atans .before .slope4 .ensures,
       atans .before .before .slope3 .ensures,

@@ -9,10 +9,10 @@ returns c =
     let second = third .before .before .before .before in
     let first = second .before .before .before .before in
     simp (
-      c .series4 .ensures,
-      c .before .series3 .ensures,
-      c .before .before .series2 .ensures,
-      c .before .before .before .series .ensures,
+      c .atan-by-eighth4 .ensures,
+      c .before .atan-by-eighth3 .ensures,
+      c .before .before .atan-by-eighth2 .ensures,
+      c .before .before .before .atan-by-eighth .ensures,
       third .halve12 .ensures,
       third .before .halve11 .ensures,
       third .before .before .halve10 .ensures,

@@ -9,9 +9,9 @@ returns c =
     let second = third .before .before .before in
     let first = second .before .before .before in
     simp (
-      c .series3 .ensures,
-      c .before .series2 .ensures,
-      c .before .before .series .ensures,
+      c .atan-by-eighth3 .ensures,
+      c .before .atan-by-eighth2 .ensures,
+      c .before .before .atan-by-eighth .ensures,
       third .halve9 .ensures,
       third .before .halve8 .ensures,
       third .before .before .halve7 .ensures,

@@ -7,9 +7,9 @@ returns : tie.Need-returns
 returns c =
     let atans = c .before .before .before in
     simp (
-      c .direction3 .ensures,
-      c .before .direction2 .ensures,
-      c .before .before .direction .ensures,
+      c .direction-by3 .ensures,
+      c .before .direction-by2 .ensures,
+      c .before .before .direction-by .ensures,
       atans .small-three .ensures,
       atans .before .slope3 .ensures,
       atans .before .before .slope2 .ensures,

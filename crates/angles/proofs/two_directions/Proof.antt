@@ -7,8 +7,8 @@ returns : tie.Need-returns
 returns c =
     let atans = c .before .before in
     simp (
-      c .direction2 .ensures,
-      c .before .direction .ensures,
+      c .direction-by2 .ensures,
+      c .before .direction-by .ensures,
       atans .atan-both .ensures,
       atans .before .slope2 .ensures,
       atans .before .before .slope .ensures,
