@@ -25,9 +25,6 @@ pub small-steps : (x : Float) → atanByEighth (halve (halve (halve x))) ≡ ata
 unfolding atanSmall
 small-steps x = refl
 
-pub atan-steps : (x : Float) → restored x (atanByEighth (halve (halve (halve (reduced x))))) ≡ atanOf x
-atan-steps x = ap (restored x) (small-steps (reduced x)) ∙ atan-restored x
-
 direction-by :
     (none wide : Bool) (x y : Float) →
     (let a = atanOf (when wide give y ⊘ x else x ⊘ y) in when none give zero else when wide give wideAngle x y a else quarterTurn y ⊖ a)

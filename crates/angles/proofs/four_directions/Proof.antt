@@ -11,7 +11,7 @@ returns c =
       c .before .direction-by3 .ensures,
       c .before .before .direction-by2 .ensures,
       c .before .before .before .direction-by .ensures,
-      atans .small-four .ensures,
+      atans .four-small-atans .ensures,
       atans .before .slope4 .ensures,
       atans .before .before .slope3 .ensures,
       atans .before .before .before .slope2 .ensures,

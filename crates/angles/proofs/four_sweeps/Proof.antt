@@ -13,7 +13,7 @@ returns c =
       c .before .restored3 .ensures,
       c .before .before .restored2 .ensures,
       c .before .before .before .restored .ensures,
-      atans .small-four .ensures,
+      atans .four-small-atans .ensures,
       atans .before .reduced4 .ensures,
       atans .before .before .reduced3 .ensures,
       atans .before .before .before .reduced2 .ensures,

@@ -10,7 +10,7 @@ returns c =
       c .direction-by3 .ensures,
       c .before .direction-by2 .ensures,
       c .before .before .direction-by .ensures,
-      atans .small-three .ensures,
+      atans .three-small-atans .ensures,
       atans .before .slope3 .ensures,
       atans .before .before .slope2 .ensures,
       atans .before .before .before .slope .ensures,

@@ -9,7 +9,7 @@ returns c =
     simp (
       c .direction-by2 .ensures,
       c .before .direction-by .ensures,
-      atans .atan-both .ensures,
+      atans .two-atans .ensures,
       atans .before .slope2 .ensures,
       atans .before .before .slope .ensures,
       direction-steps,
