@@ -7,6 +7,7 @@ use Rattle.floats.specs.Binary64.{zero}
 use Rattle.segments.specs.declared.Settings.{Settings}
 use Rattle.segments.specs.Vertex.{posOf}
 use Rattle.segments.specs.Segment.{offsetSeg}
+use Rattle.source.specs.Source.{verticesOf}
 use Rattle.source.specs.InnerSteps.{vertexOf}
 use Rattle.meetings.specs.Rules.{ruleNumber}
 use Rattle.joins.specs.declared.JoinCause.{JoinCause}
@@ -67,5 +68,6 @@ joinListed j =
 -- the join at the third of four vertices
 abbrev pub joinOfFour : List Float → Settings → JoinBoundary
 joinOfFour s σ =
-    let c = vertexOf s 2 in
-    ruledJoin (offsetSeg (vertexOf s 1) c (σ .offset)) (offsetSeg c (vertexOf s 3) (σ .offset)) (posOf c) σ
+    let vs = verticesOf s in
+    let c = vertexOf vs 2 in
+    ruledJoin (offsetSeg (vertexOf vs 1) c (σ .offset)) (offsetSeg c (vertexOf vs 3) (σ .offset)) (posOf c) σ

@@ -1,9 +1,11 @@
 // The sweeps of the bulges that a walk has met, kept for the arcs to come: most drawings have few
 // different bulges.
 ghost use mathlib.Core.Path.{_≡_};
-ghost use Prim.Native.Nat.{_*_, _≤_, _<_};
+ghost use Prim.Native.Nat.{_≤_, _<_};
 ghost use lib.ListN.{length};
 ghost use Rattle.angles.specs.Angle.{sweepOf};
+ghost use Rattle.source.specs.Source.{verticesIn};
+ghost use Rattle.source.specs.InnerSteps.{lentBy};
 ghost use Rattle.sweeps.specs.InnerSteps.{Memo};
 
 // Where a bulge is kept: by its sign, its exponent and some of its digits.
@@ -65,12 +67,15 @@ pub fn sweep_of(
     keys: &mut [u64; 16],
     sweeps: &mut [f64; 16],
     bulge: f64,
-    source: &[f64],
+    columns: bool,
+    xs: &[f64],
+    ys: &[f64],
+    bulges: &[f64],
     k: usize,
     stop: usize,
 ) -> f64
     requires { ⌜ Memo (now keys) (now sweeps) ⌝ }
-    requires { ⌜ (k < stop) × (3 * stop ≤ length (now source)) ⌝ }
+    requires { ⌜ (k < stop) × (stop ≤ length (verticesIn (lentBy columns (now xs) (now ys) (now bulges)))) ⌝ }
     ensures { λ r. ⌜ (r ≡ sweepOf bulge) × Memo (now (keys .exit)) (now (sweeps .exit)) ⌝ }
 {
     let b = bits::bits_of(bulge);
@@ -78,12 +83,12 @@ pub fn sweep_of(
     if keys[j] == b {
         return sweeps[j];
     }
-    let next = source::vertex_at(source, k).bulge;
+    let next = source::vertex_in(columns, xs, ys, bulges, k).bulge;
     if k + 2 < stop {
         let a = bits::bits_of(next);
         if keys[slot(a)] != a {
-            let third = source::vertex_at(source, k + 1).bulge;
-            let fourth = source::vertex_at(source, k + 2).bulge;
+            let third = source::vertex_in(columns, xs, ys, bulges, k + 1).bulge;
+            let fourth = source::vertex_in(columns, xs, ys, bulges, k + 2).bulge;
             return keep_four(keys, sweeps, bulge, next, third, fourth);
         }
     }

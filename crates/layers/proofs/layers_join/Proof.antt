@@ -1,6 +1,7 @@
 -- `layers::layers_join` meets its contract. Assumes nothing.
 use mathlib.Core.Path.{_≡_, ap, _∙_}
 use mathlib.Core.List.{List}
+use native.Mathlib.Omega.{arith}
 use borrow.Author.Needs.{needs}
 use lib.Ieee.{Float}
 use Rattle.vectors.specs.declared.Vector2.{Vector2}
@@ -10,7 +11,9 @@ use Rattle.segments.specs.declared.PlineVertex.{PlineVertex}
 use Rattle.segments.specs.declared.RawOffsetSeg.{RawOffsetSeg}
 use Rattle.segments.specs.Vertex.{posOf}
 use Rattle.segments.specs.Segment.{offsetSeg}
+use Rattle.source.specs.Source.{verticesOf}
 use Rattle.source.specs.InnerSteps.{vertexOf}
+use Rattle.source.proofs.Source.{length-vertices}
 use Rattle.joins.specs.Rules.{ruledJoin}
 use Rattle.layers.specs.InnerSteps.{joinListed, joinOfFour}
 use Rattle.layers.proofs.layers_join.Statement.{statement}
@@ -21,7 +24,8 @@ analyze-join-requires c κs = (c .before .before .before .before .before .before
 
 -- a join of the vertices' segments
 joined-four : {g h : RawOffsetSeg} {b c d : PlineVertex} {p : Vector2} {τ : Settings} (s : List Float) (σ : Settings) → τ ≡ σ →
-    g ≡ offsetSeg b c (σ .offset) → h ≡ offsetSeg c d (σ .offset) → p ≡ posOf c → b ≡ vertexOf s 1 → c ≡ vertexOf s 2 → d ≡ vertexOf s 3 → ruledJoin g h p τ ≡ joinOfFour s σ
+    g ≡ offsetSeg b c (σ .offset) → h ≡ offsetSeg c d (σ .offset) → p ≡ posOf c →
+    b ≡ vertexOf (verticesOf s) 1 → c ≡ vertexOf (verticesOf s) 2 → d ≡ vertexOf (verticesOf s) 3 → ruledJoin g h p τ ≡ joinOfFour s σ
 joined-four s σ t g h p b c d = rw (t, g, h, p, b, c, d)
 
 returns : tie.Need-returns
@@ -42,6 +46,15 @@ pub layers-join-spec : {M : Type 1} → statement M
 layers-join-spec =
     tie.close
     (tie.spec
-    (λ c κs. tt) (λ c κs. search needs) (λ c κs. search needs) (λ c κs. search needs) (λ c κs. search needs) (λ c κs. c .before .before .anew .ensures .marked) (λ c κs. search needs) (λ c κs. search needs) (λ c κs. search needs)
-    analyze-join-requires (λ c κs. search needs)
+    (λ c κs. tt)
+    (λ c κs. omega (arith, length-vertices (c .before .before .args .source .now)))
+    (λ c κs. omega (arith, length-vertices (c .before .before .before .before .args .source .now)))
+    (λ c κs. search needs)
+    (λ c κs. omega (arith, length-vertices (c .before .before .before .before .before .before .before .args .source .now)))
+    (λ c κs. c .before .before .anew .ensures .marked)
+    (λ c κs. omega (arith, length-vertices (c .before .before .before .before .before .before .before .before .before .before .args .source .now)))
+    (λ c κs. search needs)
+    (λ c κs. search needs)
+    analyze-join-requires
+    (λ c κs. search needs)
     returns)

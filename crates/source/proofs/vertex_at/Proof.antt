@@ -1,10 +1,21 @@
 -- `source::vertex_at` meets its contract. Assumes nothing.
-use mathlib.Core.Path.{refl}
-use borrow.Author.Needs.{needs}
-use Rattle.source.specs.InnerSteps.{vertexOf}
+use mathlib.Core.Path.{sym}
+use native.Mathlib.Omega.{arith}
+use Rattle.source.proofs.Source.{row-at, row-within}
 use Rattle.source.proofs.vertex_at.Statement.{statement}
 use Rattle.source.proofs.vertex_at.Tie as tie
 
 pub vertex-at-spec : {M : Type 1} → statement M
-unfolding vertexOf
-vertex-at-spec = tie.close (tie.spec (λ c. search needs) (λ c. search needs) (λ c. search needs) (λ c. search needs) (λ c. search needs) (λ c. search needs) (λ c. search needs) (λ c. search needs) (λ c. search needs) (λ c. refl))
+vertex-at-spec =
+    tie.close
+    (tie.spec
+    (λ c. omega (arith, row-within _ _ (c .pre)))
+    (λ c. omega (arith, row-within _ _ (c .pre)))
+    (λ c. omega (arith, row-within _ _ (c .before .pre)))
+    (λ c. omega (arith, row-within _ _ (c .before .pre)))
+    (λ c. omega (arith, row-within _ _ (c .before .pre)))
+    (λ c. omega (arith, row-within _ _ (c .before .before .pre)))
+    (λ c. omega (arith, row-within _ _ (c .before .before .pre)))
+    (λ c. omega (arith, row-within _ _ (c .before .before .pre)))
+    (λ c. omega (arith, row-within _ _ (c .before .before .before .pre)))
+    (λ c. sym (row-at _ _ (c .before .before .before .pre))))
