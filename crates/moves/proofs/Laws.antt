@@ -1,13 +1,10 @@
 -- Small facts that the functions' proofs share. Assumes nothing.
 use mathlib.Core.Path.{_≡_, refl}
 use mathlib.Core.Bool.{Bool, true, false}
-use Prim.Native.Nat.{ℕ, suc, _+_, _≤_}
+use Prim.Native.Nat.{_≤_}
 use native.Mathlib.Omega.{arith}
 use mir.Val.{boolByte}
 use Rattle.moves.specs.Drawing.{bit}
-
-pub add-two : (n : ℕ) → n + 2 ≡ suc (suc n)
-add-two n = omega arith
 
 -- the byte of a bool is its flag
 pub byte-bit : (b : Bool) → boolByte b ≡ bit b

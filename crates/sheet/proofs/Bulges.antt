@@ -2,11 +2,10 @@
 use mathlib.Core.Path.{_≡_, refl, sym, ap, _∙_}
 use mathlib.Core.Bool.{Bool, true, false, false≢true}
 use mathlib.Core.List.{List, [], _∷_, _++_}
-use Prim.Native.Nat.{ℕ, suc, _+_, _*_, _<_, _≤_}
+use Prim.Native.Nat.{ℕ, zero as none, suc, _+_, _<_, _≤_}
 use native.Mathlib.Omega.{arith}
 use lib.Dec.{eqb}
 use lib.ListN.{length, set, length-append}
-use lib.Seq.{set-set, set-comm}
 use lib.Ieee.{Float, ofBits}
 use Rattle.floats.specs.Binary64.{zero}
 use Rattle.floats.specs.Choice.{when_give_else_, _and_}
@@ -19,25 +18,33 @@ use Rattle.moves.specs.declared.Pen.{Pen}
 use Rattle.moves.specs.declared.Stroke.{Stroke}
 use Rattle.moves.specs.Drawing.{finiteVertex}
 use Rattle.moves.specs.InnerSteps.{strokeOf, penAfter, stepOf, withBulge}
-use Rattle.moves.proofs.Laws.{add-two}
 use Rattle.walk.specs.declared.Turned.{Turned}
 use Rattle.walk.specs.InnerSteps.{afterSpan, madeBy, drawnBy, strokesBy}
 use Rattle.sheet.specs.declared.Later.{Later}
-use Rattle.sheet.specs.InnerSteps.{Reached, Laid, putAt, stored, stores, bulgedAt, reachedLater, bulged, laterOf}
+use Rattle.sheet.specs.InnerSteps.{Held, Reached, Laid, putAt, stored, stores, bulging, bulgeAt, bulgedAt, reachedLater, bulged, laterOf}
 use Rattle.sheet.proofs.Stored.{stores-counted}
 
 -- ---- a stored vertex
 -- is stored with a bulge, or with another one and then that
-put-over : (l : List Float) (k : ℕ) (x y a b : Float) → putAt l k (record { x = x; y = y; bulge = b }) ≡ set (putAt l k (record { x = x; y = y; bulge = a })) (3 * k + 2) b
-put-over l k x y a b = rw add-two (sym (set-set (set (set l (3 * k) x) (suc (3 * k)) y) (suc (suc (3 * k))) a b))
+bulging-over : (vs : List PlineVertex) (k : ℕ) (x y a b : Float) → set vs k (record { x = x; y = y; bulge = b }) ≡ bulging k b (set vs k (record { x = x; y = y; bulge = a }))
+unfolding bulging
+bulging-over [] k x y a b = refl
+bulging-over (v ∷ vs) none x y a b = refl
+bulging-over (v ∷ vs) (suc k) x y a b = ap (λ (t : List PlineVertex). v ∷ t) (bulging-over vs k x y a b)
+
+put-over : (h : Held) (k : ℕ) (x y a b : Float) → putAt h k (record { x = x; y = y; bulge = b }) ≡ bulgeAt (putAt h k (record { x = x; y = y; bulge = a })) k b
+put-over h k x y a b = rw (bulging-over (h .made) k x y a b)
 
 -- a vertex of a later place leaves it
-put-apart : (l : List Float) (k j : ℕ) (v : PlineVertex) (b : Float) → k < j → putAt (set l (3 * k + 2) b) j v ≡ set (putAt l j v) (3 * k + 2) b
-put-apart l k j v b h =
-    let i = 3 * k + 2 in
-    ap (λ (t : List Float). set (set t (suc (3 * j)) (v .y)) (suc (suc (3 * j))) (v .bulge)) (set-comm l i (3 * j) b (v .x) (λ e. omega (arith, h, e)))
-    ∙ ap (λ (t : List Float). set t (suc (suc (3 * j))) (v .bulge)) (set-comm (set l (3 * j) (v .x)) i (suc (3 * j)) b (v .y) (λ e. omega (arith, h, e)))
-    ∙ set-comm (set (set l (3 * j) (v .x)) (suc (3 * j)) (v .y)) i (suc (suc (3 * j))) b (v .bulge) (λ e. omega (arith, h, e))
+bulging-apart : (vs : List PlineVertex) (k j : ℕ) (v : PlineVertex) (b : Float) → k < j → set (bulging k b vs) j v ≡ bulging k b (set vs j v)
+unfolding bulging
+bulging-apart [] k j v b h = refl
+bulging-apart (u ∷ vs) k none v b h = absurd (omega arith)
+bulging-apart (u ∷ vs) none (suc j) v b h = refl
+bulging-apart (u ∷ vs) (suc k) (suc j) v b h = ap (λ (t : List PlineVertex). u ∷ t) (bulging-apart vs k j v b (omega arith))
+
+put-apart : (l : Held) (k j : ℕ) (v : PlineVertex) (b : Float) → k < j → putAt (bulgeAt l k b) j v ≡ bulgeAt (putAt l j v) k b
+put-apart l k j v b h = rw (bulging-apart (l .made) k j v b h)
 
 finite-zero : finite zero ≡ true
 unfolding finite ofBits

@@ -13,10 +13,6 @@ unfolding flat
 flat-append [] ws = refl
 flat-append (v ∷ vs) ws = ap (λ (t : List Float). v .x ∷ v .y ∷ v .bulge ∷ t) (flat-append vs ws)
 
-pub flat-snoc : (vs : List PlineVertex) (v : PlineVertex) → flat (vs ++ v ∷ []) ≡ flat vs ++ v .x ∷ v .y ∷ v .bulge ∷ []
-unfolding flat
-flat-snoc vs v = flat-append vs (v ∷ [])
-
 pub length-flat : (vs : List PlineVertex) → length (flat vs) ≡ 3 * length vs
 unfolding flat
 length-flat [] = refl

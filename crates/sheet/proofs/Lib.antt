@@ -1,5 +1,6 @@
 pub mod Products
 pub mod Flat
+pub mod Lent
 pub mod Over
 pub mod Writing
 pub mod Origins

@@ -33,8 +33,7 @@ use Rattle.walk.proofs.Lengths.{moves-few, two-moves, connectors-few}
 use Rattle.sheet.specs.declared.Places.{Places}
 use Rattle.sheet.specs.declared.Later.{Later}
 use Rattle.sheet.specs.declared.Sheet.{Sheet}
-use Rattle.sheet.specs.Buffers.{Buffers, buffers}
-use Rattle.sheet.specs.InnerSteps.{noPlaces, Reached, reached, Laid, laid, stores, bulgedAt, reachedLater, bulged, laterOf, Trail, trail, trailLater, advanced, advances, routed, Coded, Rooms, Alike, Turns, Ready, Drawable, Entered}
+use Rattle.sheet.specs.InnerSteps.{Contents, contents, fitting, Held, noPlaces, Reached, reached, Laid, laid, stores, bulgedAt, reachedLater, bulged, laterOf, Trail, trail, trailLater, advanced, advances, routed, Coded, Rooms, Alike, Turns, Ready, Drawable, Entered}
 use Rattle.sheet.proofs.Stored.{Counted, stores-counted}
 use Rattle.sheet.proofs.Products.{product-one, product-less, product-most, product-turns}
 use Rattle.sheet.proofs.Storing.{strokes-few, numbers-few}
@@ -103,10 +102,10 @@ abbrev pub Placed : Later → Places → Type 0
 Placed r p = r .due ≡ true → r .place < p .strokes
 
 -- from the walk w, its places p, the bulge r that is left to be written and the buffers b on to the vertex c, by `t`: r is written, and its own left in its place
-pub record Round (closed : Bool) (σ : Settings) (c : PlineVertex) (w : Walk) (p : Places) (r : Later) (b : Buffers) (t : Turned)
-    (w′ : Walk) (p′ : Places) (r′ : Later) (b′ : Buffers) : Type 0 where
+pub record Round (closed : Bool) (σ : Settings) (c : PlineVertex) (w : Walk) (p : Places) (r : Later) (b : Contents) (t : Turned)
+    (w′ : Walk) (p′ : Places) (r′ : Later) (b′ : Contents) : Type 0 where
   pub here : Places
-  pub between : Buffers
+  pub between : Contents
   pub pen : Pen
   pub wrote : laid here between ≡ bulged r (laid p b)
   pub turned : turnShown t ≡ turnTo (stands w) c σ
@@ -130,7 +129,7 @@ by-advanced : (closed : Bool) (σ : Settings) (c : PlineVertex) (r : Trail)
 unfolding by advanced advance
 by-advanced closed σ c r = refl
 
-module _ {closed : Bool} {σ : Settings} {c : PlineVertex} {w : Walk} {p : Places} {r : Later} {b : Buffers} {t : Turned} {w′ : Walk} {p′ : Places} {r′ : Later} {b′ : Buffers}
+module _ {closed : Bool} {σ : Settings} {c : PlineVertex} {w : Walk} {p : Places} {r : Later} {b : Contents} {t : Turned} {w′ : Walk} {p′ : Places} {r′ : Later} {b′ : Contents}
     (x : Round closed σ c w p r b t w′ p′ r′ b′) where
   by-code : trailLater w′ p′ r′ b′ ≡ by closed (σ .eps) (t .walk .leading) (t .walk .pen) (turnShown t) (laid (x .here) (x .between))
   unfolding by penBy stepOf penAfter
@@ -182,27 +181,27 @@ module _ {closed : Bool} {σ : Settings} {c : PlineVertex} {w : Walk} {p : Place
 -- ---- the loop
 
 -- the code writes what is left
-pub wrote-later : (r : Later) (p q : Places) (b : Buffers) {ns : List Float} → ns ≡ bulgedAt (r .due) (r .place) (bulgeOf (r .sweep)) (b .vertices)
-    → reached q ≡ reachedLater r (reached p) → laid q (buffers ns (b .flags) (b .indexes) (b .origins)) ≡ bulged r (laid p b)
+pub wrote-later : (r : Later) (p q : Places) (b : Contents) {ns : Held} → ns ≡ bulgedAt (r .due) (r .place) (bulgeOf (r .sweep)) (b .vertices)
+    → reached q ≡ reachedLater r (reached p) → laid q (contents ns (b .flags) (b .indexes) (b .origins)) ≡ bulged r (laid p b)
 unfolding bulged
 wrote-later r p q b h k = rw (h, k)
 
-alike-trans : {a b c : Buffers} → Alike a b → Alike b c → Alike a c
+alike-trans : {a b c : Contents} → Alike a b → Alike b c → Alike a c
 alike-trans p q = record { vertices = q .vertices ∙ p .vertices; flags = q .flags ∙ p .flags; indexes = q .indexes ∙ p .indexes; origins = q .origins ∙ p .origins }
 
 -- with nothing left to be written
-later-none : (w : Walk) (p : Places) (r : Later) (b : Buffers) → r .due ≡ false → trailLater w p r b ≡ trail (record { walk = w; places = p }) b
+later-none : (w : Walk) (p : Places) (r : Later) (b : Contents) → r .due ≡ false → trailLater w p r b ≡ trail (record { walk = w; places = p }) b
 unfolding bulged bulgedAt when_give_else_
 later-none w p r b h = rw h
 
-left-more : (closed : Bool) (σ : Settings) (s : List Float) (v n k : ℕ) (r : Trail)
+left-more : (closed : Bool) (σ : Settings) (s : List PlineVertex) (v n k : ℕ) (r : Trail)
     → advances closed σ (routed v n (nextOf v k) s) (advanced closed σ (vertexOf s k) r) ≡ advances closed σ (routed v (suc n) k s) r
 unfolding advances routed
 left-more closed σ s v n k r = refl
 
 -- Of n turns over a source s of v vertices, from the buffers b₀ on to the trail `end`, i are done, and the next is to place k. What the turns still to come leave is that end.
 -- The chord to the next vertex is worked out, and the sweeps in the memo are those of their bulges.
-pub record Walking (closed : Bool) (σ : Settings) (s : List Float) (v n : ℕ) (b₀ : Buffers) (end : Trail) (i k : ℕ) (w : Walk) (p : Places) (r : Later) (b : Buffers) (chord : Float)
+pub record Walking (closed : Bool) (σ : Settings) (s : List PlineVertex) (v n : ℕ) (b₀ : Contents) (end : Trail) (i k : ℕ) (w : Walk) (p : Places) (r : Later) (b : Contents) (chord : Float)
     (keys : List ℕ) (sweeps : List Float) : Type 0 where
   pub within : i ≤ n
   pub below : k < v
@@ -213,8 +212,8 @@ pub record Walking (closed : Bool) (σ : Settings) (s : List Float) (v n : ℕ) 
   pub ahead : chord ≡ chordOf (w .vertex) (vertexOf s k)
   pub memo : Memo keys sweeps
 
-module _ {closed : Bool} {σ : Settings} {s : List Float} {v n : ℕ} where
-  pub walking-none : {w : Walk} {p : Places} {r : Later} {b : Buffers} {k : ℕ} {chord : Float} → r .due ≡ false → k < v → Turns (movesASegment (σ .corners)) n w p b → chord ≡ chordOf (w .vertex) (vertexOf s k)
+module _ {closed : Bool} {σ : Settings} {s : List PlineVertex} {v n : ℕ} where
+  pub walking-none : {w : Walk} {p : Places} {r : Later} {b : Contents} {k : ℕ} {chord : Float} → r .due ≡ false → k < v → Turns (movesASegment (σ .corners)) n w p b → chord ≡ chordOf (w .vertex) (vertexOf s k)
       → Walking closed σ s v n b (advances closed σ (routed v n k s) (trail (record { walk = w; places = p }) b)) 0 k w p r b chord (replicate 16 0) (replicate 16 B.zero)
   walking-none {w} {p} {r} {b} {k} none h t e = let z : n - 0 ≡ n = omega arith in record {
     within = omega arith;
@@ -227,9 +226,9 @@ module _ {closed : Bool} {σ : Settings} {s : List Float} {v n : ℕ} where
     memo = kept-none;
   }
 
-  module _ {b₀ : Buffers} {end : Trail} {i k : ℕ} {w : Walk} {p : Places} {r : Later} {b : Buffers} {chord : Float} {keys : List ℕ} {sweeps : List Float}
+  module _ {b₀ : Contents} {end : Trail} {i k : ℕ} {w : Walk} {p : Places} {r : Later} {b : Contents} {chord : Float} {keys : List ℕ} {sweeps : List Float}
       (on : Walking closed σ s v n b₀ end i k w p r b chord keys sweeps) where
-    pub walking-turn : {c : PlineVertex} (t : Turned) {w′ : Walk} {p′ : Places} {r′ : Later} {b′ : Buffers} {k′ : ℕ} {chord′ : Float} {keys′ : List ℕ} {sweeps′ : List Float}
+    pub walking-turn : {c : PlineVertex} (t : Turned) {w′ : Walk} {p′ : Places} {r′ : Later} {b′ : Contents} {k′ : ℕ} {chord′ : Float} {keys′ : List ℕ} {sweeps′ : List Float}
         → i < n → Round closed σ c w p r b t w′ p′ r′ b′ → c ≡ vertexOf s k → Fit w′ → Alike b b′
         → (k′ ≡ nextOf v k) × (k′ < v) → chord′ ≡ chordOf c (vertexOf s k′) → Memo keys′ sweeps′
         → Walking closed σ s v n b₀ end (i + 1) k′ w′ p′ r′ b′ chord′ keys′ sweeps′
@@ -253,7 +252,7 @@ module _ {closed : Bool} {σ : Settings} {s : List Float} {v n : ℕ} where
     walking-done h = let z : n - i ≡ 0 = omega arith in subst (λ j. advances closed σ (routed v j k s) (trailLater w p r b) ≡ end) z (on .left)
 
     -- room for the bulge that is left, and for a turn's strokes
-    pub room-later : r .due ≡ true → 3 * r .place + 3 ≤ length (b .vertices)
+    pub room-later : r .due ≡ true → r .place < fitting b
     room-later d = let k = on .placed d in omega (arith, on .room .rooms .vertices)
 
     -- its moves are those of the turn by the rules
@@ -262,7 +261,7 @@ module _ {closed : Bool} {σ : Settings} {s : List Float} {v n : ℕ} where
     turn-made c t h =
         rw (ap (λ (u : Turn). u .connectors) h) (connectors-few σ (w .source .0) (stands w .current) (offsetSeg (w .vertex) c (σ .offset)) (posOf (w .vertex)))
 
-    pub room-turn : (c : PlineVertex) (t : Turned) → turnShown t ≡ turnTo (stands w) c σ → (p₁ : Places) {b₁ : Buffers} → i < n → reached p₁ ≡ reachedLater r (reached p) → Alike b b₁ → w .leading ≡ 0
+    pub room-turn : (c : PlineVertex) (t : Turned) → turnShown t ≡ turnTo (stands w) c σ → (p₁ : Places) {b₁ : Contents} → i < n → reached p₁ ≡ reachedLater r (reached p) → Alike b b₁ → w .leading ≡ 0
         → Rooms (2 + length (tipFirst (t .join) (t .connector))) (laid p₁ b₁)
     room-turn c t made p₁ lt h a z =
         let q = on .room .rooms in
@@ -298,7 +297,7 @@ module _ {closed : Bool} {σ : Settings} {s : List Float} {v n : ℕ} where
     walking-fit = on .room .fit
 
 -- there is room for n turns at the first vertex, where m of them lead in
-pub turns-first : (n m room : ℕ) (a : PlineVertex) {v : ℕ} {h : Sheet} {s : List Float} {b : Buffers} → Ready v room s b
+pub turns-first : (n m room : ℕ) (a : PlineVertex) {v : ℕ} {h : Sheet} {s : List PlineVertex} {b : Contents} → Ready v room s b
     → (stood (h .walk) ≡ standingAt a m) × Fit (h .walk) × (h .places ≡ noPlaces) → (moves : ℕ) → moves ≤ 3 → n ≤ v + 2 → moves * (n - m) ≤ room → Turns moves n (h .walk) (h .places) b
 unfolding standingAt
 turns-first n m room a {h = h} r e moves three l q =
@@ -316,7 +315,7 @@ turns-first n m room a {h = h} r e moves three l q =
     }
 
 -- and for those once around, of a walk that is led in
-pub turns-around : {v room : ℕ} {σ : Settings} {pointed : Bool} {h : Sheet} {s : List Float} {b : Buffers} → Drawable v v room σ pointed s b → Entered σ h
+pub turns-around : {v room : ℕ} {σ : Settings} {pointed : Bool} {h : Sheet} {s : List PlineVertex} {b : Contents} → Drawable v v room σ pointed s b → Entered σ h
     → Turns (movesASegment (σ .corners)) (v - 1) (h .walk) (h .places) b
 turns-around {v} {σ = σ} d e =
     let r = d .ready in

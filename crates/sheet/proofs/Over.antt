@@ -1,12 +1,11 @@
 -- A list written over the front of another, and places of a list set to one value. Assumes nothing.
 use mathlib.Core.Path.{_≡_, refl, sym, ap, _∙_}
-use mathlib.Core.List.{List, [], _∷_, _++_, append-assoc, append-nil}
-use Prim.Native.Nat.{ℕ, suc, _+_, _-_, _<_, _≤_}
+use mathlib.Core.List.{List, [], _∷_, _++_, append-assoc}
+use Prim.Native.Nat.{ℕ, _+_, _-_, _<_, _≤_}
 use native.Mathlib.Nat.{not-suc-le-zero, le-of-suc-le-suc}
-use native.Mathlib.Numerals.{add-one}
 use native.Mathlib.Omega.{arith}
-use lib.ListN.{length, set, drop, replicate, take, length-append, length-replicate, replicate-append-replicate}
-use lib.Seq.{sets, length-take-le, take-append-le, take-all, drop-append-le, drop-append-add, drop-at, drop-drop}
+use lib.ListN.{length, set, drop, replicate, take, length-replicate, replicate-append-replicate}
+use lib.Seq.{length-take-le, take-append-le, take-all, drop-append-le, drop-append-add, drop-at, drop-drop}
 use Rattle.sheet.specs.Buffers.{padded}
 use Rattle.sheet.specs.InnerSteps.{over, cleared}
 
@@ -16,15 +15,6 @@ module _ {ℓ} {A : Type ℓ} where
   over-set xs [] a h = absurd (not-suc-le-zero h)
   over-set [] (y ∷ ys) a h = refl
   over-set (x ∷ xs) (y ∷ ys) a h = ap (λ (t : List A). x ∷ t) (over-set xs ys a (le-of-suc-le-suc h))
-
-  -- and so do several
-  pub over-sets : (xs ys vs : List A) → length xs + length vs ≤ length ys → sets (over xs ys) (length xs) vs ≡ over (xs ++ vs) ys
-  over-sets xs ys [] h = rw append-nil
-  over-sets xs ys (v ∷ vs) h =
-      let l : length (xs ++ v ∷ []) ≡ suc (length xs) = length-append xs (v ∷ []) ∙ add-one (length xs) in
-      let r : length xs < length ys = omega arith in
-      let r′ : length (xs ++ v ∷ []) + length vs ≤ length ys = omega arith in
-      rw (over-set xs ys v r, ← l, over-sets (xs ++ v ∷ []) ys vs r′) (ap (λ (t : List A). over t ys) (append-assoc xs (v ∷ []) vs))
 
   module _ (z : A) where
     -- What was written over a list, cleared from a on and up to n.

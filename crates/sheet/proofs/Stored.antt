@@ -2,7 +2,7 @@
 use mathlib.Core.Path.{_≡_, refl, _∙_}
 use mathlib.Core.List.{List, [], _∷_, _++_}
 use mathlib.Core.Bool.{Bool, true, false}
-use Prim.Native.Nat.{ℕ, suc, _+_, _*_, _≤_}
+use Prim.Native.Nat.{ℕ, suc, _+_, _≤_}
 use native.Mathlib.Nat.{add-zero, zero-add}
 use native.Mathlib.Numerals.{add-one}
 use native.Mathlib.Omega.{arith}
@@ -20,9 +20,7 @@ use Rattle.moves.specs.Drawing.{Drawing, corners, flagsOf, marks, mark, bit, or
 use Rattle.moves.specs.InnerSteps.{strokes, sure}
 use Rattle.moves.proofs.Laws.{bit-small}
 use Rattle.moves.proofs.Shapes.{path, path-fits}
-use Rattle.sheet.specs.Buffers.{Buffers, buffers, flat}
-use Rattle.sheet.specs.InnerSteps.{noPlaces, Reached, Laid, laid, stored, stores, over}
-use Rattle.sheet.proofs.Flat.{length-flat}
+use Rattle.sheet.specs.InnerSteps.{Contents, contents, fitting, making, noPlaces, Reached, Laid, laid, stored, stores, over, overAt}
 
 pub stores-append : (ss ts : List Stroke) (l : Laid) → stores (ss ++ ts) l ≡ stores ts (stores ss l)
 unfolding stores
@@ -52,7 +50,7 @@ row n p ks l = record {
     finite = allFinite (corners p ks) and l .places .finite;
   };
   buffers = record {
-    vertices = sets (l .buffers .vertices) (3 * l .places .strokes) (flat (corners p ks));
+    vertices = making (sets (l .buffers .vertices .made) (l .places .strokes) (corners p ks)) (l .buffers .vertices);
     flags = sets (l .buffers .flags) (l .places .strokes) (flagsOf ks);
     indexes = sets (l .buffers .indexes) (l .places .marks) (marks n ks);
     origins = sets (l .buffers .origins) (l .places .strokes) (originsOf ks);
@@ -77,26 +75,25 @@ index-count true j k ks = omega arith
 index-count false j k ks = omega arith
 
 stores-row : (n : ℕ) (p : Vector2) (ks : List Move) (l : Laid) → stores (strokes n p ks) l ≡ row n p ks l
-unfolding stores stored strokes corners flagsOf marks originsOf flat allFinite _and_
+unfolding stores stored strokes corners flagsOf marks originsOf allFinite _and_
 stores-row n p [] l = simp add-zero
 stores-row n p (m ∷ ks) l =
     let i = invalidMove m in
     let e : l .places .strokes + 1 + length ks ≡ l .places .strokes + suc (length ks) = omega arith in
-    let t : 3 * (l .places .strokes + 1) ≡ suc (suc (suc (3 * l .places .strokes))) = omega arith in
     let f = swap (allFinite (corners (m .end) ks)) (finiteVertex (vertexAt p (m .bulge))) (l .places .finite) in
     let x = index-more i (l .buffers .indexes) (l .places .marks) n (marks (suc n) ks) in
     let c = index-count i (l .places .marks) n (marks (suc n) ks) in
     let o = add-one (l .places .strokes) in
-    stores-row (suc n) (m .end) ks _ ∙ rw (e, t, f, x, c, o)
+    stores-row (suc n) (m .end) ks _ ∙ rw (e, f, x, c, o)
 
 -- ---- and from the first places on
 
 -- the lists of a drawing, written over the buffers
-abbrev pub written : Drawing → Buffers → Buffers
-written d old = buffers (over (flat (d .vertices)) (old .vertices)) (over (d .flags) (old .flags)) (over (d .indexes) (old .indexes)) (over (d .origins) (old .origins))
+abbrev pub written : Drawing → Contents → Contents
+written d old = contents (overAt (d .vertices) (old .vertices)) (over (d .flags) (old .flags)) (over (d .indexes) (old .indexes)) (over (d .origins) (old .origins))
 
 -- with the places after it
-abbrev pub drawnOver : Vector2 → List Move → Buffers → Laid
+abbrev pub drawnOver : Vector2 → List Move → Contents → Laid
 drawnOver p ks old =
     record { places = record { strokes = length ks; marks = length (marks 0 ks); finite = allFinite (corners p ks) }; buffers = written (path p ks true) old }
 
@@ -112,13 +109,12 @@ none-sure : sure B.zero ≡ true
 unfolding isNan ofBits
 none-sure = refl
 
-pub stores-drawn : (p : Vector2) (ks : List Move) (old : Buffers) → 3 * length ks ≤ length (old .vertices) → length ks ≤ length (old .flags) → length ks ≤ length (old .indexes)
+pub stores-drawn : (p : Vector2) (ks : List Move) (old : Contents) → length ks ≤ fitting old → length ks ≤ length (old .flags) → length ks ≤ length (old .indexes)
     → length ks ≤ length (old .origins)
     → stores (strokes 0 p ks) (laid noPlaces old) ≡ drawnOver p ks old
 stores-drawn p ks old v f i o =
     let w = path-fits (length ks) p ks true (omega arith) in
-    let n = length-flat (corners p ks) in
-    let a = over-all (flat (corners p ks)) (old .vertices) (omega (arith, w .vertices)) in
+    let a = over-all (corners p ks) (old .vertices .made) (omega (arith, w .vertices)) in
     let b = over-all (flagsOf ks) (old .flags) (omega (arith, w .flags)) in
     let c = over-all (marks 0 ks) (old .indexes) (omega (arith, w .indexes)) in
     let d = over-all (originsOf ks) (old .origins) (omega (arith, w .flags, w .origins)) in

@@ -61,9 +61,6 @@ drawn-room n k h room t = room (eqb-true n 0 (both-pass (eqb n 0) k .0 (sym h �
 pub room-fewer : {m n : ℕ} {l : Laid} → n ≤ m → Rooms m l → Rooms n l
 room-fewer h w = record { vertices = omega (arith, w .vertices); flags = omega (arith, w .flags); indexes = omega (arith, w .indexes); origins = omega (arith, w .origins) }
 
-pub one-fewer : {n : ℕ} {l : Laid} → Rooms (n + 1) l → Rooms n l
-one-fewer w = room-fewer (omega arith) w
-
 marks-room : (t : Bool) (is : List ℕ) (j k n : ℕ) → j + (n + 1) ≤ length is → j + bit t + n ≤ length (when t give set is j k else is)
 unfolding when_give_else_
 marks-room true is j k n h = simp length-set (omega arith)
@@ -129,32 +126,34 @@ move-leaves n r pen m e {l} h w = let f = drawn-few n (stepOf pen m e) in subst 
 pub row-leaves : (n r : ℕ) (pen : Pen) (ms : List Move) (e : Float) {l l′ : Laid} → l′ ≡ stores (strokesBy n pen ms e) l → Rooms (length ms + r) l → Rooms r l′
 row-leaves n r pen ms e {l} h w = let f = strokes-few n pen ms e in subst (Rooms r) (sym h) (stores-room r (strokesBy n pen ms e) l (room-fewer (omega arith) w))
 
--- the room of a turn with k moves to a tip: after its span, and after those moves
-pub after-span : (n k : ℕ) (pen : Pen) (m : Move) (e : Float) {l l′ : Laid} → l′ ≡ stores (drawnBy n (stepOf pen m e)) l → Rooms (2 + k) l → Rooms (k + 1) l′
-after-span n k pen m e h w = move-leaves n (k + 1) pen m e h (room-fewer {m = 2 + k} {n = 1 + (k + 1)} (omega arith) w)
-
 -- one move alone
 pub move-row : (n : ℕ) (pen : Pen) (m : Move) (e : Float) → strokesBy n pen (m ∷ []) e ≡ drawnBy n (stepOf pen m e)
 unfolding strokesBy
 move-row n pen m e = append-nil (drawnBy n (stepOf pen m e))
 
--- as the code goes: a span, the moves to a tip, if there is one, and a connector
-module _ (n : ℕ) (pen : Pen) (span connector : Move) (tips : List Move) (e : Float) {half tipped : Pen} (one : half ≡ stepOf pen span e .pen) (two : tipped ≡ penBy half tips e) where
-  pub turn-pen : {p : Pen} → p ≡ stepOf tipped connector e .pen → p ≡ penBy pen (span ∷ tips ++ connector ∷ []) e
+-- as the code goes: a row of moves and one after it, and a move and a row after it
+module _ (pen : Pen) (ms : List Move) (m : Move) (e : Float) {p : Pen} (one : p ≡ penBy pen ms e) where
+  pub row-pen : {q : Pen} → q ≡ stepOf p m e .pen → q ≡ penBy pen (ms ++ m ∷ []) e
   unfolding penBy
-  turn-pen h = h ∙ rw (two, one) (sym (pen-both (stepOf pen span e .pen) tips (connector ∷ []) e))
+  row-pen h = h ∙ rw one (sym (pen-both pen ms (m ∷ []) e))
 
-  pub turn-stored : (l : Laid) {l₁ l₂ l₃ : Laid} → l₁ ≡ stores (drawnBy n (stepOf pen span e)) l → l₂ ≡ stores (strokesBy n half tips e) l₁ → l₃ ≡ stores (drawnBy n (stepOf tipped connector e)) l₂
-      → l₃ ≡ stores (strokesBy n pen (span ∷ tips ++ connector ∷ []) e) l
-  unfolding strokesBy
-  turn-stored l x y z =
-      let first = stepOf pen span e in
-      let laid₁ = stores (drawnBy n first) l in
+module _ (n : ℕ) (pen : Pen) (ms : List Move) (m : Move) (e : Float) {p : Pen} (one : p ≡ penBy pen ms e) (l : Laid) where
+  pub row-stored : {l₁ l₂ : Laid} → l₁ ≡ stores (strokesBy n pen ms e) l → l₂ ≡ stores (drawnBy n (stepOf p m e)) l₁ → l₂ ≡ stores (strokesBy n pen (ms ++ m ∷ []) e) l
+  row-stored x y =
       let all =
-      stores-append (drawnBy n first) (strokesBy n (first .pen) (tips ++ connector ∷ []) e) l
-      ∙ ap (λ (ss : List Stroke). stores ss laid₁) (strokes-both n (first .pen) tips (connector ∷ []) e) ∙ stores-append (strokesBy n (first .pen) tips e) _ laid₁
-      ∙ ap (λ (ss : List Stroke). stores ss (stores (strokesBy n (first .pen) tips e) laid₁)) (move-row n (penBy (first .pen) tips e) connector e) in
-      z ∙ rw (two, y, x, one) (sym all)
+      ap (λ (ss : List Stroke). stores ss l) (strokes-both n pen ms (m ∷ []) e) ∙ stores-append (strokesBy n pen ms e) _ l
+      ∙ ap (λ (ss : List Stroke). stores ss (stores (strokesBy n pen ms e) l)) (move-row n (penBy pen ms e) m e) in
+      y ∙ rw (one, x) (sym all)
+
+module _ (pen : Pen) (m : Move) (ms : List Move) (e : Float) {p : Pen} (one : p ≡ stepOf pen m e .pen) where
+  pub span-pen : {q : Pen} → q ≡ penBy p ms e → q ≡ penBy pen (m ∷ ms) e
+  unfolding penBy
+  span-pen h = h ∙ rw one
+
+module _ (n : ℕ) (pen : Pen) (m : Move) (ms : List Move) (e : Float) {p : Pen} (one : p ≡ stepOf pen m e .pen) (l : Laid) where
+  pub span-stored : {l₁ l₂ : Laid} → l₁ ≡ stores (drawnBy n (stepOf pen m e)) l → l₂ ≡ stores (strokesBy n p ms e) l₁ → l₂ ≡ stores (strokesBy n pen (m ∷ ms) e) l
+  unfolding strokesBy
+  span-stored x y = y ∙ rw (one, x) (sym (stores-append (drawnBy n (stepOf pen m e)) (strokesBy n (stepOf pen m e .pen) ms e) l))
 
 -- ---- a tip
 
@@ -183,5 +182,5 @@ closing-connectors i j h = rw (h, tip-first i j)
 pub closing-length : (i : ℕ) (j : JoinBoundary) {m : Move} → m ≡ connectorMove i j → 1 + length (connectorMoves i j) ≡ 2 + length (tipFirst j m)
 closing-length i j {m} h = let e = ap (λ (ms : List Move). length ms) (closing-connectors i j h) in omega (arith, e, length-append (tipFirst j m) (m ∷ []))
 
-pub closing-room : (i : ℕ) (j : JoinBoundary) {m : Move} {l : Laid} → m ≡ connectorMove i j → Rooms (suc (length (connectorMoves i j))) l → Rooms (2 + length (tipFirst j m)) l
+pub closing-room : (i : ℕ) (j : JoinBoundary) {m : Move} {l : Laid} → m ≡ connectorMove i j → Rooms (suc (length (connectorMoves i j))) l → Rooms (1 + (1 + length (tipFirst j m))) l
 closing-room i j h w = let e = closing-length i j h in room-fewer (omega (arith, e)) w

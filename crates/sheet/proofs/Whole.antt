@@ -6,7 +6,7 @@ use Prim.Native.Nat.{ℕ, _+_, _*_, _-_, _≤_}
 use native.Mathlib.Omega.{arith}
 use borrow.Author.Tests.{ne-eqb}
 use lib.Dec.{eqb, eqb·suc-zero}
-use lib.ListN.{length, drop, length-append}
+use lib.ListN.{length, drop}
 use lib.Ieee.{Float}
 use Rattle.floats.specs.Binary64.{zero}
 use Rattle.floats.specs.Choice.{when_give_else_, _and_}
@@ -17,11 +17,9 @@ use Rattle.segments.specs.declared.Settings.{Settings}
 use Rattle.segments.specs.Modes.{arePointed}
 use Rattle.segments.specs.Vertex.{vertexAt}
 use Rattle.segments.specs.Segment.{isCollapsed}
-use Rattle.source.specs.Source.{verticesOf}
 use Rattle.source.specs.InnerSteps.{vertexOf, nextOf}
 use Rattle.moves.specs.declared.Move.{Move}
 use Rattle.moves.specs.declared.Stroke.{Stroke}
-use Rattle.moves.specs.declared.Stepped.{Stepped}
 use Rattle.moves.specs.Made.{connectorMove, connectorMoves}
 use Rattle.moves.specs.Drawing.{Drawing, nothing, moveEnd, kept, lastPoint, corners, flagsOf, marks, originsOf, drawnOpen, drawnClosed, finiteVertex, allFinite, emptyResult, resultOf}
 use Rattle.moves.specs.InnerSteps.{stepOf, strokes, Fits}
@@ -33,7 +31,7 @@ use Rattle.joins.specs.declared.JoinBoundary.{JoinBoundary}
 use Rattle.joins.specs.Corner.{isPointed}
 use Rattle.joins.proofs.Corner.{tip-mode}
 use Rattle.walk.specs.Walk.{movesASegment, joinAt, closingJoin, walkStart, walkMoves, walkDrawing, loneCollapsed, drawingOf}
-use Rattle.walk.specs.InnerSteps.{stands, Stood, stood, Fit, standingAt, spanTo, lastSpan, drawnBy, strokesBy, advance, goes, drawnOn}
+use Rattle.walk.specs.InnerSteps.{Stood, stood, Fit, standingAt, spanTo, lastSpan, drawnBy, strokesBy, advance, goes, drawnOn}
 use Rattle.walk.proofs.Turning.{led-undrawn}
 use Rattle.walk.proofs.Around.{open-led, open-drawn, open-current, ledIn, closed-led, closed-undrawn, closed-drawn}
 use Rattle.walk.proofs.Unmet.{never-one}
@@ -41,38 +39,35 @@ use Rattle.walk.proofs.Lengths.{moves-few, two-moves, three-moves, open-most, c
 use Rattle.sheet.specs.declared.Places.{Places}
 use Rattle.sheet.specs.declared.Sheet.{Sheet}
 use Rattle.sheet.specs.declared.Built.the-variants.{Done}
-use Rattle.sheet.specs.Buffers.{Buffers, flat, noOrigin, shown}
-use Rattle.sheet.specs.InnerSteps.{noPlaces, Reached, Laid, laid, putAt, stored, stores, Trail, trail, advanced, advances, routed, Rooms, Alike, Ready, Drawable, over, cleared, wiped, Within, Lasts, closingMoves, finished, finishes, finishesOpen, lasts, closes, Entered, builtOf}
-use Rattle.sheet.proofs.Over.{over-sets, cleared-after, cleared-whole}
-use Rattle.sheet.proofs.Flat.{flat-snoc, length-flat}
+use Rattle.sheet.specs.Buffers.{noOrigin}
+use Rattle.sheet.specs.InnerSteps.{Contents, fitting, blank, making, Held, showing, noPlaces, Reached, Laid, laid, putAt, stores, Trail, trail, advanced, advances, routed}
+use Rattle.sheet.specs.InnerSteps.{Rooms, Alike, Ready, Drawable, over, overAt, cleared, wiped, Within, Lasts, closingMoves, finished, finishes, finishesOpen, lasts, closes, Entered, builtOf}
+use Rattle.sheet.proofs.Over.{over-set, cleared-after, cleared-whole}
 use Rattle.sheet.proofs.Stored.{stores-append, stores-counted, written, drawnOver, stores-drawn}
 use Rattle.sheet.proofs.Products.{product-less, product-most}
-use Rattle.sheet.proofs.Storing.{stores-last, strokes-few}
+use Rattle.sheet.proofs.Storing.{strokes-few}
 use Rattle.sheet.proofs.Bulges.{swap}
 use Rattle.sheet.proofs.Routes.{length-routed, first-two, others, last-is, open-route, lead-route, around-route}
 use Rattle.sheet.proofs.Loop.{advances-gone}
 
 -- ---- the lists of a drawing, with zeros after them or in their place
-module _ (room : ℕ) (d : Drawing) (old : Buffers) (w : Fits room d) where
-  numbers-fit : length (flat (d .vertices)) ≤ 3 * room
-  numbers-fit = let l = length-flat (d .vertices) in omega (arith, w .vertices)
-
+module _ (room : ℕ) (d : Drawing) (old : Contents) (w : Fits room d) where
   origins-fit : length (d .origins) ≤ room
   origins-fit = omega (arith, w .flags, w .origins)
 
-  written-after : wiped room (length (d .vertices)) (length (d .flags)) (length (d .indexes)) (written d old) ≡ shown room d old
-  unfolding wiped shown
+  written-after : wiped room (length (d .vertices)) (length (d .flags)) (length (d .indexes)) (written d old) ≡ showing room d old
+  unfolding wiped showing
   written-after =
-      let v = cleared-after zero (3 * room) (flat (d .vertices)) (old .vertices) numbers-fit in
+      let v = cleared-after blank room (d .vertices) (old .vertices .made) (w .vertices) in
       let f = cleared-after 0 room (d .flags) (old .flags) (w .flags) in
       let i = cleared-after 0 room (d .indexes) (old .indexes) (w .indexes) in
       let o = cleared-after noOrigin room (d .origins) (old .origins) origins-fit in
-      rw (← length-flat (d .vertices), v, f, i, ap (λ (n : ℕ). cleared noOrigin n (room - n) (over (d .origins) (old .origins))) (sym (w .origins)) ∙ o)
+      rw (v, f, i, ap (λ (n : ℕ). cleared noOrigin n (room - n) (over (d .origins) (old .origins))) (sym (w .origins)) ∙ o)
 
-  written-whole : wiped room 0 0 0 (written d old) ≡ shown room nothing old
-  unfolding wiped shown flat
+  written-whole : wiped room 0 0 0 (written d old) ≡ showing room nothing old
+  unfolding wiped showing
   written-whole =
-      let v = cleared-whole zero (3 * room) (flat (d .vertices)) (old .vertices) numbers-fit in
+      let v = cleared-whole blank room (d .vertices) (old .vertices .made) (w .vertices) in
       let f = cleared-whole 0 room (d .flags) (old .flags) (w .flags) in
       let i = cleared-whole 0 room (d .indexes) (old .indexes) (w .indexes) in
       let o = cleared-whole noOrigin room (d .origins) (old .origins) origins-fit in
@@ -84,8 +79,8 @@ module _ (room : ℕ) (d : Drawing) (old : Buffers) (w : Fits room d) where
   unfolding finishes builtOf
   finish-built = rw (written-after, written-whole)
 
-built-nothing : (room : ℕ) (old : Buffers) → finished (Done emptyResult) (wiped room 0 0 0 old) ≡ builtOf room nothing old
-unfolding builtOf allFinite when_give_else_ flat
+built-nothing : (room : ℕ) (old : Contents) → finished (Done emptyResult) (wiped room 0 0 0 old) ≡ builtOf room nothing old
+unfolding builtOf allFinite when_give_else_
 built-nothing room old = rw (written-whole room nothing old (nothing-fits room))
 
 -- ---- the two finishes
@@ -94,10 +89,10 @@ unfolding allFinite
 finite-snoc [] v = refl
 finite-snoc (u ∷ vs) v = ap (λ (t : Bool). finiteVertex u and t) (finite-snoc vs v) ∙ swap (finiteVertex u) (finiteVertex v) (allFinite vs)
 
-closed-finish : (room : ℕ) (p : Vector2) (ks : List Move) (old : Buffers) → (length ks ≡ 1 → ⊥) → length ks ≤ room
+closed-finish : (room : ℕ) (p : Vector2) (ks : List Move) (old : Contents) → (length ks ≡ 1 → ⊥) → length ks ≤ room
     → finishes room (record { vertices = length ks; indexes = length (marks 0 ks); closed = not (eqb (length ks) 0) }) (drawnOver p ks old) ≡ builtOf room (drawnClosed p ks) old
-unfolding drawnClosed
-closed-finish room p [] old o l = unfold corners flagsOf marks originsOf flat in finish-built room nothing old (nothing-fits room)
+unfolding drawnClosed corners
+closed-finish room p [] old o l = unfold flagsOf marks originsOf in finish-built room nothing old (nothing-fits room)
 closed-finish room p (k ∷ []) old o l = absurd (o refl)
 closed-finish room p (k ∷ m ∷ ks) old o l =
     let all = k ∷ m ∷ ks in
@@ -105,17 +100,17 @@ closed-finish room p (k ∷ m ∷ ks) old o l =
     rw (e, length-flagsOf all) (rw (length-corners p all, length-flagsOf all) at (finish-built room (path p all true) old (path-fits room p all true l)))
 
 -- the last point after the kept moves
-put-last : (p : Vector2) (ks : List Move) (old : List Float) → 3 * length ks + 3 ≤ length old
-    → putAt (over (flat (corners p ks)) old) (length ks) (vertexAt (lastPoint p ks) zero) ≡ over (flat (ray p ks .vertices)) old
+put-last : (p : Vector2) (ks : List Move) (old : Held) → length ks + 1 ≤ length (old .made)
+    → putAt (overAt (corners p ks) old) (length ks) (vertexAt (lastPoint p ks) zero) ≡ overAt (ray p ks .vertices) old
 put-last p ks old r =
     let q = vertexAt (lastPoint p ks) zero in
-    let l : length (flat (corners p ks)) ≡ 3 * length ks = length-flat (corners p ks) ∙ ap (λ n. 3 * n) (length-corners p ks) in
-    rw (← l, over-sets (flat (corners p ks)) old (q .x ∷ q .y ∷ q .bulge ∷ []) (omega arith), ← flat-snoc (corners p ks) q)
+    let l = length-corners p ks in
+    ap (λ (vs : List PlineVertex). making vs old) (rw (← l) (over-set (corners p ks) (old .made) q (omega arith)))
 
-open-finish : (room : ℕ) (p : Vector2) (ks : List Move) (old : Buffers) → length ks + 1 ≤ room → 3 * room ≤ length (old .vertices)
+open-finish : (room : ℕ) (p : Vector2) (ks : List Move) (old : Contents) → length ks + 1 ≤ room → room ≤ fitting old
     → finishesOpen room (record { last = lastPoint p ks; number = record { 0 = length ks } }) (drawnOver p ks old) ≡ builtOf room (drawnOpen p ks) old
-unfolding finishesOpen when_give_else_ drawnOpen
-open-finish room p [] old l v = unfold corners flagsOf marks originsOf flat in built-nothing room old
+unfolding finishesOpen when_give_else_ drawnOpen corners
+open-finish room p [] old l v = unfold flagsOf marks originsOf in built-nothing room old
 open-finish room p (k ∷ ks) old l v =
     let all = k ∷ ks in
     let e : eqb (length all) 0 ≡ false = eqb·suc-zero (length ks) in
@@ -145,10 +140,10 @@ lone-none σ a b [] l h = unfold drawnOn advance standingAt stores in rw (led-un
 lone-none σ a b (c ∷ vs) l h = absurd (false≢true h)
 
 -- ---- a source that is lent: where its walk starts, and the moves of it that are kept
-abbrev rest : List Float → List PlineVertex
-rest s = drop 2 (verticesOf s)
+abbrev rest : List PlineVertex → List PlineVertex
+rest s = drop 2 s
 
-module _ (closed : Bool) (σ : Settings) (s : List Float) where
+module _ (closed : Bool) (σ : Settings) (s : List PlineVertex) where
   abbrev start : Vector2
   start = walkStart closed σ (vertexOf s 0) (vertexOf s 1) (rest s)
 
@@ -159,11 +154,11 @@ module _ (closed : Bool) (σ : Settings) (s : List Float) where
   few = length-kept moveEnd (λ x y. near x y (σ .eps)) _ _
 
 -- all turns of a walk from the vertex a, n of which lead in
-abbrev walked : Bool → Settings → List PlineVertex → PlineVertex → ℕ → Buffers → Trail
+abbrev walked : Bool → Settings → List PlineVertex → PlineVertex → ℕ → Contents → Trail
 walked closed σ vs a n old = advances closed σ vs (record { stood = standingAt a n; laid = laid noPlaces old })
 
 -- ---- after turns from the first places on there is room for the last t moves
-pub lasts-after : (closed : Bool) (σ : Settings) (s : List Float) (v n k t room : ℕ) (h h′ : Sheet) {b b′ : Buffers} → Ready v room s b → Alike b b′
+pub lasts-after : (closed : Bool) (σ : Settings) (s : List PlineVertex) (v n k t room : ℕ) (h h′ : Sheet) {b b′ : Contents} → Ready v room s b → Alike b b′
     → (h .places .strokes ≡ 0) × (h .places .marks ≡ 0) × (h .walk .pen .number .0 ≡ 0) × (h .walk .source .0 ≡ 0)
     → movesASegment (σ .corners) * (n - h .walk .leading) + t ≤ room → (n ≤ 4096) × (t ≤ 3) → room ≤ 12288
     → trail h′ b′ ≡ advances closed σ (routed v n k s) (trail h b) → Lasts t room h′ b′
@@ -184,7 +179,7 @@ lasts-after closed σ s v n k t room h h′ {b} ready alike none few most small 
     }
 
 -- of an open walk
-pub first-lasts : (σ : Settings) (s : List Float) (v k room : ℕ) (pointed : Bool) (a : PlineVertex) (h h′ : Sheet) {b b′ : Buffers} → Drawable v (v - 1) room σ pointed s b → Alike b b′
+pub first-lasts : (σ : Settings) (s : List PlineVertex) (v k room : ℕ) (pointed : Bool) (a : PlineVertex) (h h′ : Sheet) {b b′ : Contents} → Drawable v (v - 1) room σ pointed s b → Alike b b′
     → (stood (h .walk) ≡ standingAt a 1) × Fit (h .walk) × (h .places ≡ noPlaces) → trail h′ b′ ≡ advances false σ (routed v (v - 1) k s) (trail h b) → Lasts 2 room h′ b′
 unfolding standingAt
 first-lasts σ s v k room pointed a h h′ d alike first e =
@@ -206,7 +201,7 @@ closing-few σ i j tipped =
     either-tip i j (λ (ms : List Move). 1 + length (ms ++ connectorMove i j ∷ []) ≤ movesASegment (σ .corners)) (λ e. omega (arith, two-moves (σ .corners)))
     (λ e. omega (arith, three-moves (σ .corners) (tipped e)))
 
-pub around-lasts : (σ : Settings) (s : List Float) (v k room : ℕ) (pointed : Bool) (h h′ : Sheet) {b b′ : Buffers} → Drawable v v room σ pointed s b → Alike b b′ → Entered σ h
+pub around-lasts : (σ : Settings) (s : List PlineVertex) (v k room : ℕ) (pointed : Bool) (h h′ : Sheet) {b b′ : Contents} → Drawable v v room σ pointed s b → Alike b b′ → Entered σ h
     → trail h′ b′ ≡ advances true σ (routed v (v - 1) k s) (trail h b) → Lasts (length (closingMoves (h′ .walk) (h .walk .entry))) room h′ b′
 around-lasts σ s v k room pointed h h′ d alike en e =
     let m = product-less (movesASegment (σ .corners)) v (omega (arith, d .ready .two)) in
@@ -216,7 +211,7 @@ around-lasts σ s v k room pointed h h′ d alike en e =
     lasts-after true σ s v (v - 1) k _ room h h′ (d .ready) alike (en .strokes, en .marks, en .number, en .source) few
     (omega (arith, d .ready .most), omega (arith, c, moves-few (σ .corners))) (d .small) e
 
-pub ready-alike : {v room : ℕ} {s : List Float} {b b′ : Buffers} → Ready v room s b → Alike b b′ → Ready v room s b′
+pub ready-alike : {v room : ℕ} {s : List PlineVertex} {b b′ : Contents} → Ready v room s b → Alike b b′ → Ready v room s b′
 ready-alike r a = record {
   long = r .long;
   two = r .two;
@@ -227,10 +222,10 @@ ready-alike r a = record {
   origins = omega (arith, r .origins, a .origins);
 }
 
-pub drawable-alike : {v n room : ℕ} {σ : Settings} {pointed : Bool} {s : List Float} {b b′ : Buffers} → Drawable v n room σ pointed s b → Alike b b′ → Drawable v n room σ pointed s b′
+pub drawable-alike : {v n room : ℕ} {σ : Settings} {pointed : Bool} {s : List PlineVertex} {b b′ : Contents} → Drawable v n room σ pointed s b → Alike b b′ → Drawable v n room σ pointed s b′
 drawable-alike d a = record { ready = ready-alike (d .ready) a; told = d .told; enough = d .enough; small = d .small }
 
-module _ (σ : Settings) (s : List Float) (v room : ℕ) (pointed : Bool) (old : Buffers) (sheet : Sheet) {b : Buffers} where
+module _ (σ : Settings) (s : List PlineVertex) (v room : ℕ) (pointed : Bool) (old : Contents) (sheet : Sheet) {b : Contents} where
   -- ---- closed
   module _ (d : Drawable v v room σ pointed s old) (h : trail sheet b ≡ walked true σ (routed v 2 0 s) (vertexOf s (v - 1)) 2 old) where
     abbrev first : Stood
@@ -269,7 +264,7 @@ module _ (σ : Settings) (s : List Float) (v room : ℕ) (pointed : Bool) (old :
         sym (stores-append (drawnOn true σ around first) _ (laid noPlaces old)) ∙ rw (closed-drawn σ (vertexOf s 0) (vertexOf s 1) (rest s))
         (stores-drawn (start true σ s) (moves true σ s) old (omega (arith, d .ready .vertices)) (omega (arith, d .ready .flags)) (omega (arith, d .ready .indexes)) (omega (arith, d .ready .origins)))
 
-    closed-drawing : drawnClosed (start true σ s) (moves true σ s) ≡ drawingOf true σ (verticesOf s)
+    closed-drawing : drawnClosed (start true σ s) (moves true σ s) ≡ drawingOf true σ s
     unfolding drawingOf loneCollapsed walkDrawing when_give_else_
     closed-drawing = ap (drawingOf true σ) (sym (first-two s v (d .ready .long) (d .ready .two)))
 
@@ -278,14 +273,14 @@ module _ (σ : Settings) (s : List Float) (v room : ℕ) (pointed : Bool) (old :
     closed-entry = ap (λ (r : Trail). r .stood .walker .entry) closed-first
 
     closed-closes : closes room (closingJoin σ (vertexOf s 0) (vertexOf s 1) (rest s)) (σ .eps)
-        (record { stood = goes true σ around first; laid = stores (drawnOn true σ around first) (laid noPlaces old) }) ≡ builtOf room (drawingOf true σ (verticesOf s)) old
+        (record { stood = goes true σ around first; laid = stores (drawnOn true σ around first) (laid noPlaces old) }) ≡ builtOf room (drawingOf true σ s) old
     unfolding closes
     closed-closes =
         ap (λ (l : Laid). finishes room (record { vertices = l .places .strokes; indexes = l .places .marks; closed = not (eqb (l .places .strokes) 0) }) l) closed-laid
         ∙ closed-finish room (start true σ s) (moves true σ s) old (never-one σ (vertexOf s 0) (vertexOf s 1) (rest s)) closed-few
         ∙ rw closed-drawing
 
-    pub closed-built : closes room (sheet .walk .entry) (σ .eps) (advances true σ (routed v (v - 1) (nextOf v 1) s) (trail sheet b)) ≡ builtOf room (drawingOf true σ (verticesOf s)) old
+    pub closed-built : closes room (sheet .walk .entry) (σ .eps) (advances true σ (routed v (v - 1) (nextOf v 1) s) (trail sheet b)) ≡ builtOf room (drawingOf true σ s) old
     closed-built =
         let k = closingJoin σ (vertexOf s 0) (vertexOf s 1) (rest s) in
         let led : Trail = record { stood = first; laid = laid noPlaces old } in
@@ -328,19 +323,15 @@ module _ (σ : Settings) (s : List Float) (v room : ℕ) (pointed : Bool) (old :
         by true l = rw (advances-drawn, lone-is, l, lone-none σ (vertexOf s 0) (vertexOf s 1) (rest s) (laid noPlaces old) l) (built-nothing room old)
         by false l = rw (advances-drawn, lone-is, l) open-walked
 
-    pub open-built : lasts room (eqb v 2) (σ .eps) (trail sheet b) ≡ builtOf room (drawingOf false σ (verticesOf s)) old
+    pub open-built : lasts room (eqb v 2) (σ .eps) (trail sheet b) ≡ builtOf room (drawingOf false σ s) old
     open-built =
         ap (lasts room (eqb v 2) (σ .eps)) open-gone
         ∙ ap (λ n. lasts room (eqb n 2) (σ .eps) (walked false σ (vertexOf s 1 ∷ rest s) (vertexOf s 0) 1 old)) (sym (others s v (d .ready .long) (d .ready .two)))
         ∙ open-ends
         ∙ ap (λ (vs : List PlineVertex). builtOf room (drawingOf false σ vs) old) (sym (first-two s v (d .ready .long) (d .ready .two)))
 
--- ---- the last moves as the code stores them: the last span of an open walk
-pub last-stored : (st : Stepped) (l : Laid) → when st .kept give stored (st .stroke) l else l ≡ stores (drawnBy 0 st) l
-unfolding drawnBy _and_
-last-stored st l = sym (stores-last (st .kept) (st .stroke) l)
-
-pub lasts-room : {t room : ℕ} {h : Sheet} {b : Buffers} → Lasts t room h b → Rooms t (laid (h .places) b)
+-- ---- the last moves as the code stores them
+pub lasts-room : {t room : ℕ} {h : Sheet} {b : Contents} → Lasts t room h b → Rooms t (laid (h .places) b)
 lasts-room w = record {
   vertices = omega (arith, w .strokes, w .vertices);
   flags = omega (arith, w .strokes, w .flags);
@@ -349,7 +340,7 @@ lasts-room w = record {
 }
 
 -- there is room for them, and for k vertices in all
-pub last-within : (k t room : ℕ) (h : Sheet) (p : Places) (ss : List Stroke) {b b′ : Buffers} → Lasts t room h b → Alike b b′ → laid p b′ ≡ stores ss (laid (h .places) b)
+pub last-within : (k t room : ℕ) (h : Sheet) (p : Places) (ss : List Stroke) {b b′ : Contents} → Lasts t room h b → Alike b b′ → laid p b′ ≡ stores ss (laid (h .places) b)
     → length ss ≤ t → k + length ss ≤ p .strokes + t → Within room k (p .strokes) (p .marks) b′
 last-within k t room h p ss {b} w alike e n m =
     let c = stores-counted ss (laid (h .places) b) in
@@ -367,7 +358,7 @@ last-within k t room h p ss {b} w alike e n m =
     }
 
 -- the closing moves as the code stores them: they leave q
-module _ (room : ℕ) (ε : Float) (h : Sheet) (k : JoinBoundary) (q : Places) {b b′ : Buffers} (w : Lasts (length (closingMoves (h .walk) k)) room h b) (alike : Alike b b′)
+module _ (room : ℕ) (ε : Float) (h : Sheet) (k : JoinBoundary) (q : Places) {b b′ : Contents} (w : Lasts (length (closingMoves (h .walk) k)) room h b) (alike : Alike b b′)
     (all : laid q b′ ≡ stores (strokesBy 0 (h .walk .pen) (closingMoves (h .walk) k) ε) (laid (h .places) b)) where
   pub closing-within : Within room (q .strokes) (q .strokes) (q .marks) b′
   closing-within =

@@ -1,12 +1,11 @@
 -- What the steps of storing and of the loop do to the places and to the lent buffers, and the room that they need. No rule rests on these: `proofs/Stored.antt` and
--- `proofs/Whole.antt` tie them to `drawingOf` and `shown`. Definitions only.
+-- `proofs/Whole.antt` tie them to `drawingOf`, and `proofs/Lent.antt` to `shown`. Definitions only.
 use mathlib.Core.Path.{_≡_}
 use Prim.Native.Nat.{ℕ, zero, suc, _+_, _*_, _-_, _≤_, _<_}
 use mathlib.Core.List.{List, [], _∷_, _++_}
 use mathlib.Core.Bool.{Bool, true, false, not}
 use lib.Dec.{eqb}
 use lib.ListN.{length, set, take, drop, replicate}
-use lib.Seq.{sets}
 use lib.Ieee.{Float}
 use Rattle.floats.specs.Binary64 as B
 use Rattle.floats.specs.Binary64.{_⊘_}
@@ -18,7 +17,8 @@ use Rattle.segments.specs.Modes.{arePointed}
 use Rattle.segments.specs.Vertex.{vertexAt}
 use Rattle.segments.specs.Segment.{isCollapsed}
 use Rattle.angles.specs.Angle.{tanEighth, bulgeOf}
-use Rattle.source.specs.InnerSteps.{vertexOf, nextOf}
+use Rattle.source.specs.Source.{verticesOf, columnsOf, verticesIn}
+use Rattle.source.specs.InnerSteps.{lentBy, vertexOf, nextOf}
 use Rattle.joins.specs.declared.JoinBoundary.{JoinBoundary}
 use Rattle.joins.specs.Corner.{isPointed}
 use Rattle.moves.specs.declared.Move.{Move}
@@ -39,7 +39,57 @@ use Rattle.sheet.specs.declared.Later.{Later}
 use Rattle.sheet.specs.declared.Sheet.{Sheet}
 use Rattle.sheet.specs.declared.Built.{Built}
 use Rattle.sheet.specs.declared.Built.the-variants.{Done, NotFinite}
-use Rattle.sheet.specs.Buffers.{Buffers, buffers, noOrigin, shown}
+use Rattle.moves.specs.Origins.{originsIn}
+use Rattle.sheet.specs.Buffers.{padded, noOrigin}
+
+-- ---- what the buffers hold
+
+-- The numbers that make no vertex: in rows those left over, and the two lists that nothing is done with; in columns what stands past the shortest.
+abbrev pub beyondBy : Bool → List Float → List Float → List Float → List (List Float)
+beyondBy true xs ys bs = let n = length (columnsOf xs ys bs) in drop n xs ∷ drop n ys ∷ drop n bs ∷ []
+beyondBy false xs ys bs = drop (3 * length (verticesOf xs)) xs ∷ ys ∷ bs ∷ []
+
+-- what three lists hold, whatever the layout
+pub record Held : Type 0 where
+  pub made : List PlineVertex
+  pub beyond : List (List Float)
+
+unfoldable pub heldBy : Bool → List Float → List Float → List Float → Held
+heldBy c xs ys bs = record { made = verticesIn (lentBy c xs ys bs); beyond = beyondBy c xs ys bs }
+
+-- and what all six do
+pub record Contents : Type 0 where
+  pub vertices : Held
+  pub flags : List ℕ
+  pub indexes : List ℕ
+  pub origins : List Origin
+
+abbrev pub contents : Held → List ℕ → List ℕ → List Origin → Contents
+contents v f i o = record { vertices = v; flags = f; indexes = i; origins = o }
+
+abbrev pub held : Bool → List Float → List Float → List Float → List ℕ → List ℕ → List ℕ → Contents
+held c xs ys bs f i o = contents (heldBy c xs ys bs) f i (originsIn o)
+
+-- so many vertices fit
+abbrev pub fitting : Contents → ℕ
+fitting b = length (b .vertices .made)
+
+-- other vertices, with the same numbers beyond them
+abbrev pub making : List PlineVertex → Held → Held
+making vs h = record { made = vs; beyond = h .beyond }
+
+-- an unused vertex
+abbrev pub blank : PlineVertex
+blank = record { x = B.zero; y = B.zero; bulge = B.zero }
+
+-- a drawing in the first `room` places
+unfoldable pub showing : ℕ → Drawing → Contents → Contents
+showing room d old = record {
+  vertices = making (padded blank room (d .vertices) (old .vertices .made)) (old .vertices);
+  flags = padded 0 room (d .flags) (old .flags);
+  indexes = padded 0 room (d .indexes) (old .indexes);
+  origins = padded noOrigin room (d .origins) (old .origins);
+}
 
 -- ---- strokes
 
@@ -59,14 +109,14 @@ reached p = record { strokes = p .strokes; marks = p .marks; finite = sure (p .d
 -- and the buffers, which a stroke changes
 pub record Laid : Type 0 where
   pub places : Reached
-  pub buffers : Buffers
+  pub buffers : Contents
 
-abbrev pub laid : Places → Buffers → Laid
+abbrev pub laid : Places → Contents → Laid
 laid p b = record { places = reached p; buffers = b }
 
 -- a vertex at place k
-abbrev pub putAt : List Float → ℕ → PlineVertex → List Float
-putAt ns k v = sets ns (3 * k) (v .x ∷ v .y ∷ v .bulge ∷ [])
+abbrev pub putAt : Held → ℕ → PlineVertex → Held
+putAt h k v = making (set (h .made) k v) h
 
 -- a stroke at its places: its vertex, its flag and its origin, and its number where it is invalid
 unfoldable pub stored : Stroke → Laid → Laid
@@ -91,9 +141,18 @@ stores (s ∷ ss) l = stores ss (stored s l)
 
 -- ---- a bulge that is written later
 
--- b as the bulge of the vertex at place k, where t holds
-unfoldable pub bulgedAt : Bool → ℕ → Float → List Float → List Float
-bulgedAt t k b ns = when t give set ns (3 * k + 2) b else ns
+-- b as the bulge of the vertex at place k
+unfoldable pub bulging : ℕ → Float → List PlineVertex → List PlineVertex
+bulging k b [] = []
+bulging zero b (v ∷ vs) = record { x = v .x; y = v .y; bulge = b } ∷ vs
+bulging (suc k) b (v ∷ vs) = v ∷ bulging k b vs
+
+abbrev pub bulgeAt : Held → ℕ → Float → Held
+bulgeAt h k b = making (bulging k b (h .made)) h
+
+-- where t holds
+unfoldable pub bulgedAt : Bool → ℕ → Float → Held → Held
+bulgedAt t k b h = when t give bulgeAt h k b else h
 
 -- the half of it is worked out
 abbrev pub Begun : Later → Float → Type 0
@@ -106,7 +165,7 @@ reachedLater r p = record { strokes = p .strokes; marks = p .marks; finite = whe
 unfoldable pub bulged : Later → Laid → Laid
 bulged r l = record {
   places = reachedLater r (l .places);
-  buffers = buffers (bulgedAt (r .due) (r .place) (bulgeOf (r .sweep)) (l .buffers .vertices)) (l .buffers .flags) (l .buffers .indexes) (l .buffers .origins);
+  buffers = contents (bulgedAt (r .due) (r .place) (bulgeOf (r .sweep)) (l .buffers .vertices)) (l .buffers .flags) (l .buffers .indexes) (l .buffers .origins);
 }
 
 -- what a turn leaves to be written: the bulge of its span, if that is an arc and is drawn, at place k
@@ -120,10 +179,10 @@ pub record Trail : Type 0 where
   pub stood : Stood
   pub laid : Laid
 
-abbrev pub trail : Sheet → Buffers → Trail
+abbrev pub trail : Sheet → Contents → Trail
 trail h b = record { stood = stood (h .walk); laid = laid (h .places) b }
 
-abbrev pub trailLater : Walk → Places → Later → Buffers → Trail
+abbrev pub trailLater : Walk → Places → Later → Contents → Trail
 trailLater w p r b = record { stood = stood w; laid = bulged r (laid p b) }
 
 -- one turn, stored
@@ -138,7 +197,7 @@ advances closed σ [] r = r
 advances closed σ (c ∷ vs) r = advances closed σ vs (advanced closed σ c r)
 
 -- the n vertices of a source of v from place k on: after the last comes the first
-unfoldable pub routed : ℕ → ℕ → ℕ → List Float → List PlineVertex
+unfoldable pub routed : ℕ → ℕ → ℕ → List PlineVertex → List PlineVertex
 routed v zero k s = []
 routed v (suc n) k s = vertexOf s k ∷ routed v n (nextOf v k) s
 
@@ -150,44 +209,44 @@ Coded o = segmentOf o < 0x8000_0000
 
 -- there is room for t strokes more
 pub record Rooms (t : ℕ) (l : Laid) : Type 0 where
-  pub vertices : 3 * (l .places .strokes + t) ≤ length (l .buffers .vertices)
+  pub vertices : l .places .strokes + t ≤ fitting (l .buffers)
   pub flags : l .places .strokes + t ≤ length (l .buffers .flags)
   pub indexes : l .places .marks + t ≤ length (l .buffers .indexes)
   pub origins : l .places .strokes + t ≤ length (l .buffers .origins)
 
 -- buffers of the same lengths
-pub record Alike (b b′ : Buffers) : Type 0 where
-  pub vertices : length (b′ .vertices) ≡ length (b .vertices)
+pub record Alike (b b′ : Contents) : Type 0 where
+  pub vertices : fitting b′ ≡ fitting b
   pub flags : length (b′ .flags) ≡ length (b .flags)
   pub indexes : length (b′ .indexes) ≡ length (b .indexes)
   pub origins : length (b′ .origins) ≡ length (b .origins)
 
 -- what t turns need: a walk that can be joined on, numbers that fit, and room for m strokes a turn, but for those that lead in
-pub record Turns (m t : ℕ) (w : Walk) (p : Places) (b : Buffers) : Type 0 where
+pub record Turns (m t : ℕ) (w : Walk) (p : Places) (b : Contents) : Type 0 where
   pub fit : Fit w
   pub sources : w .source .0 + t < 0x8000_0000
   pub outputs : w .pen .number .0 + m * t + 1 < 0x1_0000_0000
   pub rooms : Rooms (m * (t - w .leading)) (laid p b)
 
 -- and over a source of v vertices, from place k on
-pub record Starts (m v k t : ℕ) (h : Sheet) (s : List Float) (b : Buffers) : Type 0 where
-  pub long : 3 * v ≡ length s
+pub record Starts (m v k t : ℕ) (h : Sheet) (vs : List PlineVertex) (b : Contents) : Type 0 where
+  pub long : v ≡ length vs
   pub below : k < v
   pub turns : Turns m t (h .walk) (h .places) b
 
 -- a source of v vertices, and `room` places in each buffer
-pub record Ready (v room : ℕ) (s : List Float) (b : Buffers) : Type 0 where
-  pub long : 3 * v ≡ length s
+pub record Ready (v room : ℕ) (vs : List PlineVertex) (b : Contents) : Type 0 where
+  pub long : v ≡ length vs
   pub two : 2 ≤ v
   pub most : v ≤ 4096
-  pub vertices : 3 * room ≤ length (b .vertices)
+  pub vertices : room ≤ fitting b
   pub flags : room ≤ length (b .flags)
   pub indexes : room ≤ length (b .indexes)
   pub origins : room ≤ length (b .origins)
 
 -- and so many for the moves of its n segments, in the mode that is told
-pub record Drawable (v n room : ℕ) (σ : Settings) (pointed : Bool) (s : List Float) (b : Buffers) : Type 0 where
-  pub ready : Ready v room s b
+pub record Drawable (v n room : ℕ) (σ : Settings) (pointed : Bool) (vs : List PlineVertex) (b : Contents) : Type 0 where
+  pub ready : Ready v room vs b
   pub told : pointed ≡ arePointed (σ .corners)
   pub enough : movesASegment (σ .corners) * n ≤ room
   pub small : room ≤ 12288
@@ -198,26 +257,33 @@ pub record Drawable (v n room : ℕ) (σ : Settings) (pointed : Bool) (s : List 
 abbrev pub over {ℓ} : {A : Type ℓ} → List A → List A → List A
 over xs old = xs ++ drop (length xs) old
 
+-- vertices, and then what stood there before
+abbrev pub overAt : List PlineVertex → Held → Held
+overAt vs h = making (over vs (h .made)) h
+
 -- count places from `from` on set to z
 abbrev pub cleared {ℓ} : {A : Type ℓ} → A → ℕ → ℕ → List A → List A
 cleared z from count l = take from l ++ replicate count z ++ drop (from + count) l
 
+abbrev pub clearedAt : ℕ → ℕ → Held → Held
+clearedAt from count h = making (cleared blank from count (h .made)) h
+
 -- zeros from vertex v, flag and origin f, and index i on, up to `room` places
-unfoldable pub wiped : ℕ → ℕ → ℕ → ℕ → Buffers → Buffers
+unfoldable pub wiped : ℕ → ℕ → ℕ → ℕ → Contents → Contents
 wiped room v f i old = record {
-  vertices = cleared B.zero (3 * v) (3 * room - 3 * v) (old .vertices);
+  vertices = clearedAt v (room - v) (old .vertices);
   flags = cleared 0 f (room - f) (old .flags);
   indexes = cleared 0 i (room - i) (old .indexes);
   origins = cleared noOrigin f (room - f) (old .origins);
 }
 
 -- there is room for `room` places, and the counts are within it
-pub record Within (room v f i : ℕ) (b : Buffers) : Type 0 where
+pub record Within (room v f i : ℕ) (b : Contents) : Type 0 where
   pub small : room ≤ 12288
   pub from-vertex : v ≤ room
   pub from-flag : f ≤ room
   pub from-index : i ≤ room
-  pub vertices : 3 * room ≤ length (b .vertices)
+  pub vertices : room ≤ fitting b
   pub flags : room ≤ length (b .flags)
   pub indexes : room ≤ length (b .indexes)
   pub origins : room ≤ length (b .origins)
@@ -225,9 +291,9 @@ pub record Within (room v f i : ℕ) (b : Buffers) : Type 0 where
 -- what was built, and the buffers with it
 pub record Finished : Type 0 where
   pub built : Built
-  pub buffers : Buffers
+  pub buffers : Contents
 
-abbrev pub finished : Built → Buffers → Finished
+abbrev pub finished : Built → Contents → Finished
 finished r b = record { built = r; buffers = b }
 
 -- an answer whose numbers are all finite stands, with zeros after it; any other is refused, and its room set to zero
@@ -244,7 +310,7 @@ finishesOpen room pen l =
     finishes room (record { vertices = l .places .strokes + 1; indexes = l .places .marks; closed = false })
     (record {
       places = record { strokes = l .places .strokes; marks = l .places .marks; finite = finiteVertex v and l .places .finite };
-      buffers = buffers (putAt (l .buffers .vertices) (l .places .strokes) v) (l .buffers .flags) (l .buffers .indexes) (l .buffers .origins);
+      buffers = contents (putAt (l .buffers .vertices) (l .places .strokes) v) (l .buffers .flags) (l .buffers .indexes) (l .buffers .origins);
     })
 
 -- the last span of an open walk: nothing is drawn of a collapsed arc that is alone
@@ -267,13 +333,13 @@ closes room k ε r =
     finishes room (record { vertices = l .places .strokes; indexes = l .places .marks; closed = not (eqb (l .places .strokes) 0) }) l
 
 -- what the last t moves need
-pub record Lasts (t room : ℕ) (h : Sheet) (b : Buffers) : Type 0 where
+pub record Lasts (t room : ℕ) (h : Sheet) (b : Contents) : Type 0 where
   pub sources : h .walk .source .0 < 0x8000_0000
   pub outputs : h .walk .pen .number .0 + t < 0x1_0000_0000
   pub small : room ≤ 12288
   pub strokes : h .places .strokes + t ≤ room
   pub marks : h .places .marks + t ≤ room
-  pub vertices : 3 * room ≤ length (b .vertices)
+  pub vertices : room ≤ fitting b
   pub flags : room ≤ length (b .flags)
   pub indexes : room ≤ length (b .indexes)
   pub origins : room ≤ length (b .origins)
@@ -289,5 +355,5 @@ pub record Entered (σ : Settings) (h : Sheet) : Type 0 where
   pub marks : h .places .marks ≡ 0
 
 -- what becomes of a drawing d (01 §1, No. 6)
-unfoldable pub builtOf : ℕ → Drawing → Buffers → Finished
-builtOf room d old = when allFinite (d .vertices) give finished (Done (resultOf d)) (shown room d old) else finished NotFinite (shown room nothing old)
+unfoldable pub builtOf : ℕ → Drawing → Contents → Finished
+builtOf room d old = when allFinite (d .vertices) give finished (Done (resultOf d)) (showing room d old) else finished NotFinite (showing room nothing old)

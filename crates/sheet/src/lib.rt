@@ -1,20 +1,21 @@
-// The lent buffers, in rows: three numbers a vertex in the source and in the output, flags, indexes and
-// origins.
+// The lent buffers: vertices in either layout, flags, indexes and origins. In columns `xs`, `ys` and
+// `bulges` are the source, and `outxs`, `outys` and `outbulges` what comes out; in rows the first of each
+// three has all the numbers, and nothing is done with the others.
 // This layer alone knows them; the walk that it stores is by value. A vertex is stored when it is left,
 // with the bulge of the move that leaves it, so that nothing is stored twice.
 ghost use mathlib.Core.Path.{_≡_};
 ghost use mathlib.Core.Bool.{true, false};
+ghost use mathlib.Core.List.{[], _∷_, _++_};
 ghost use Prim.Native.Nat.{_+_, _*_, _-_, _≤_, _<_};
 ghost use lib.Dec.{eqb};
-ghost use lib.ListN.{length, set};
-ghost use Rattle.floats.specs.Binary64.{zero};
+ghost use lib.ListN.{length, set, take};
 ghost use Rattle.floats.specs.Choice.{when_give_else_, _and_};
 ghost use Rattle.angles.specs.Angle.{sweepOf, bulgeOf};
 ghost use Rattle.segments.specs.Vertex.{bulgeIsZero};
 ghost use Rattle.segments.specs.Modes.{arePointed};
 ghost use Rattle.segments.specs.InnerSteps.{chordOf};
-ghost use Rattle.source.specs.Source.{verticesOf, segmentsOf};
-ghost use Rattle.source.specs.InnerSteps.{vertexOf, nextOf};
+ghost use Rattle.source.specs.Source.{verticesIn, segmentsOf};
+ghost use Rattle.source.specs.InnerSteps.{lentBy, vertexOf, nextOf};
 ghost use Rattle.sweeps.specs.InnerSteps.{Memo};
 ghost use Rattle.joins.specs.Corner.{isPointed};
 ghost use Rattle.moves.specs.Origins.{originsIn};
@@ -22,8 +23,9 @@ ghost use Rattle.moves.specs.Drawing.{bit, resultOf};
 ghost use Rattle.moves.specs.InnerSteps.{stepOf, tipFirst, sure};
 ghost use Rattle.walk.specs.Walk.{movesASegment, drawingOf, spansFrom, copied};
 ghost use Rattle.walk.specs.InnerSteps.{stood, standingAt, Fit, madeBy, drawnBy, strokesBy, penBy};
-ghost use Rattle.sheet.specs.Buffers.{buffers, noOrigin, shown};
-ghost use Rattle.sheet.specs.InnerSteps.{noPlaces, reached, laid, putAt, stored, stores, bulgedAt, Begun, reachedLater, laterOf, trail, advances, routed, Coded, Rooms, Starts, Ready, Drawable, cleared, wiped, over, Within, finished, finishes, finishesOpen, Lasts, lasts, closingMoves, closes, Entered, builtOf};
+ghost use Rattle.sheet.specs.Buffers.{noOrigin};
+ghost use Rattle.sheet.specs.InnerSteps.{heldBy, held, showing, noPlaces, reached, laid, putAt, stored, stores, bulgeAt, bulgedAt, Begun, reachedLater, laterOf, trail, advances, routed, Coded};
+ghost use Rattle.sheet.specs.InnerSteps.{Rooms, Starts, Ready, Drawable, over, overAt, cleared, clearedAt, wiped, Within, finished, finishes, finishesOpen, Lasts, lasts, closingMoves, closes, Entered, builtOf};
 use joins::JoinBoundary;
 use moves::Move;
 use moves::Origin;
@@ -65,14 +67,46 @@ impl Places {
 }
 
 // The three numbers of a vertex, at place k.
-fn put_vertex(vertices: &mut [f64], k: usize, v: PlineVertex)
-    requires { ⌜ 3 * k + 3 ≤ length (now vertices) ⌝ }
-    ensures { λ _. ⌜ now (vertices .exit) ≡ putAt (now (vertices .entry)) k v ⌝ }
+fn put_vertex(
+    columns: bool,
+    outxs: &mut [f64],
+    outys: &mut [f64],
+    outbulges: &mut [f64],
+    k: usize,
+    v: PlineVertex,
+)
+    requires { ⌜ k < length (heldBy columns (now outxs) (now outys) (now outbulges) .made) ⌝ }
+    ensures { λ _. ⌜ heldBy columns (now (outxs .exit)) (now (outys .exit)) (now (outbulges .exit)) ≡ putAt (heldBy columns (now (outxs .entry)) (now (outys .entry)) (now (outbulges .entry))) k v ⌝ }
 {
+    if columns {
+        outxs[k] = v.x;
+        outys[k] = v.y;
+        outbulges[k] = v.bulge;
+        return;
+    }
     let at = 3 * k;
-    vertices[at] = v.x;
-    vertices[at + 1] = v.y;
-    vertices[at + 2] = v.bulge;
+    outxs[at] = v.x;
+    outxs[at + 1] = v.y;
+    outxs[at + 2] = v.bulge;
+}
+
+// The bulge of the vertex at place k.
+fn put_bulge(
+    columns: bool,
+    outxs: &mut [f64],
+    outys: &mut [f64],
+    outbulges: &mut [f64],
+    k: usize,
+    bulge: f64,
+)
+    requires { ⌜ k < length (heldBy columns (now outxs) (now outys) (now outbulges) .made) ⌝ }
+    ensures { λ _. ⌜ heldBy columns (now (outxs .exit)) (now (outys .exit)) (now (outbulges .exit)) ≡ bulgeAt (heldBy columns (now (outxs .entry)) (now (outys .entry)) (now (outbulges .entry))) k bulge ⌝ }
+{
+    if columns {
+        outbulges[k] = bulge;
+        return;
+    }
+    outxs[3 * k + 2] = bulge;
 }
 
 // The flag of segment k, and its number at index j where it is invalid.
@@ -105,7 +139,10 @@ fn put_origin(origins: &mut [u32], k: usize, origin: Origin)
 
 // Stores a stroke, if it is drawn.
 fn store(
-    vertices: &mut [f64],
+    columns: bool,
+    outxs: &mut [f64],
+    outys: &mut [f64],
+    outbulges: &mut [f64],
     flags: &mut [u8],
     indexes: &mut [u32],
     origins: &mut [u32],
@@ -113,9 +150,9 @@ fn store(
     drawn: bool,
     stroke: Stroke,
 ) -> Places
-    requires { ⌜ (drawn ≡ true → Rooms 1 (laid places (buffers (now vertices) (now flags) (now indexes) (originsIn (now origins))))) × Coded (stroke .origin) ⌝ }
-    ensures { λ r. ⌜ laid r (buffers (now (vertices .exit)) (now (flags .exit)) (now (indexes .exit)) (originsIn (now (origins .exit))))
-        ≡ when drawn give stored stroke (laid places (buffers (now (vertices .entry)) (now (flags .entry)) (now (indexes .entry)) (originsIn (now (origins .entry))))) else laid places (buffers (now (vertices .entry)) (now (flags .entry)) (now (indexes .entry)) (originsIn (now (origins .entry)))) ⌝ }
+    requires { ⌜ (drawn ≡ true → Rooms 1 (laid places (held columns (now outxs) (now outys) (now outbulges) (now flags) (now indexes) (now origins)))) × Coded (stroke .origin) ⌝ }
+    ensures { λ r. ⌜ laid r (held columns (now (outxs .exit)) (now (outys .exit)) (now (outbulges .exit)) (now (flags .exit)) (now (indexes .exit)) (now (origins .exit)))
+        ≡ when drawn give stored stroke (laid places (held columns (now (outxs .entry)) (now (outys .entry)) (now (outbulges .entry)) (now (flags .entry)) (now (indexes .entry)) (now (origins .entry)))) else laid places (held columns (now (outxs .entry)) (now (outys .entry)) (now (outbulges .entry)) (now (flags .entry)) (now (indexes .entry)) (now (origins .entry))) ⌝ }
 {
     if !drawn {
         return places;
@@ -126,7 +163,7 @@ fn store(
     let reason = stroke.reason;
     let invalid = reason.is_invalid();
     let origin = stroke.origin;
-    put_vertex(vertices, k, vertex);
+    put_vertex(columns, outxs, outys, outbulges, k, vertex);
     put_flag(flags, indexes, k, j, invalid, stroke.number);
     put_origin(origins, k, origin);
     Places {
@@ -167,16 +204,24 @@ impl Later {
     }
 
     // The other half, after the join.
-    fn write(self, vertices: &mut [f64], half: f64, places: Places) -> Places
-        requires { ⌜ Begun self half × (self .due ≡ true → 3 * self .place + 3 ≤ length (now vertices)) ⌝ }
-        ensures { λ r. ⌜ (now (vertices .exit) ≡ bulgedAt (self .due) (self .place) (bulgeOf (self .sweep)) (now (vertices .entry))) × (reached r ≡ reachedLater self (reached places)) ⌝ }
+    fn write(
+        self,
+        columns: bool,
+        outxs: &mut [f64],
+        outys: &mut [f64],
+        outbulges: &mut [f64],
+        half: f64,
+        places: Places,
+    ) -> Places
+        requires { ⌜ Begun self half × (self .due ≡ true → self .place < length (heldBy columns (now outxs) (now outys) (now outbulges) .made)) ⌝ }
+        ensures { λ r. ⌜ (heldBy columns (now (outxs .exit)) (now (outys .exit)) (now (outbulges .exit)) ≡ bulgedAt (self .due) (self .place) (bulgeOf (self .sweep)) (heldBy columns (now (outxs .entry)) (now (outys .entry)) (now (outbulges .entry)))) × (reached r ≡ reachedLater self (reached places)) ⌝ }
     {
         if !self.due {
             return places;
         }
         let k = self.place;
         let bulge = angles::tan_by_eighth(half);
-        vertices[3 * k + 2] = bulge;
+        put_bulge(columns, outxs, outys, outbulges, k, bulge);
         Places {
             strokes: places.strokes,
             marks: places.marks,
@@ -195,7 +240,10 @@ pub struct Drawn {
 // A move, stored right after its step: a processor guesses which way it goes. Nothing is drawn while turns
 // lead in.
 fn store_move(
-    vertices: &mut [f64],
+    columns: bool,
+    outxs: &mut [f64],
+    outys: &mut [f64],
+    outbulges: &mut [f64],
     flags: &mut [u8],
     indexes: &mut [u32],
     origins: &mut [u32],
@@ -205,15 +253,18 @@ fn store_move(
     m: Move,
     eps: f64,
 ) -> Drawn
-    requires { ⌜ (leading ≡ 0 → Rooms 1 (laid places (buffers (now vertices) (now flags) (now indexes) (originsIn (now origins))))) × (pen .number .0 + 1 < 0x1_0000_0000) × Coded (m .origin) ⌝ }
-    ensures { λ r. ⌜ laid (r .places) (buffers (now (vertices .exit)) (now (flags .exit)) (now (indexes .exit)) (originsIn (now (origins .exit))))
-        ≡ stores (drawnBy leading (stepOf pen m eps)) (laid places (buffers (now (vertices .entry)) (now (flags .entry)) (now (indexes .entry)) (originsIn (now (origins .entry))))) ⌝ }
+    requires { ⌜ (leading ≡ 0 → Rooms 1 (laid places (held columns (now outxs) (now outys) (now outbulges) (now flags) (now indexes) (now origins)))) × (pen .number .0 + 1 < 0x1_0000_0000) × Coded (m .origin) ⌝ }
+    ensures { λ r. ⌜ laid (r .places) (held columns (now (outxs .exit)) (now (outys .exit)) (now (outbulges .exit)) (now (flags .exit)) (now (indexes .exit)) (now (origins .exit)))
+        ≡ stores (drawnBy leading (stepOf pen m eps)) (laid places (held columns (now (outxs .entry)) (now (outys .entry)) (now (outbulges .entry)) (now (flags .entry)) (now (indexes .entry)) (now (origins .entry)))) ⌝ }
     ensures { λ r. ⌜ (r .pen ≡ stepOf pen m eps .pen) × (r .drawn ≡ (eqb leading 0 and stepOf pen m eps .kept)) ⌝ }
 {
     let stepped = pen.step(m, eps);
     let drawn = moves::both(leading == 0, stepped.kept);
     let places = store(
-        vertices,
+        columns,
+        outxs,
+        outys,
+        outbulges,
         flags,
         indexes,
         origins,
@@ -228,7 +279,10 @@ fn store_move(
 // The first of two connectors, if the join has a tip: `connector` is the other. The mode is told beside:
 // in the round one there is none.
 fn store_tip(
-    vertices: &mut [f64],
+    columns: bool,
+    outxs: &mut [f64],
+    outys: &mut [f64],
+    outbulges: &mut [f64],
     flags: &mut [u8],
     indexes: &mut [u32],
     origins: &mut [u32],
@@ -239,10 +293,10 @@ fn store_tip(
     pointed: bool,
     eps: f64,
 ) -> Drawn
-    requires { ⌜ (leading ≡ 0 → Rooms (length (tipFirst join connector)) (laid (before .places) (buffers (now vertices) (now flags) (now indexes) (originsIn (now origins))))) × (before .pen .number .0 + 1 < 0x1_0000_0000) ⌝ }
+    requires { ⌜ (leading ≡ 0 → Rooms (length (tipFirst join connector)) (laid (before .places) (held columns (now outxs) (now outys) (now outbulges) (now flags) (now indexes) (now origins)))) × (before .pen .number .0 + 1 < 0x1_0000_0000) ⌝ }
     requires { ⌜ Coded (connector .origin) × (isPointed (join .cause) ≡ true → pointed ≡ true) ⌝ }
-    ensures { λ r. ⌜ laid (r .places) (buffers (now (vertices .exit)) (now (flags .exit)) (now (indexes .exit)) (originsIn (now (origins .exit))))
-        ≡ stores (strokesBy leading (before .pen) (tipFirst join connector) eps) (laid (before .places) (buffers (now (vertices .entry)) (now (flags .entry)) (now (indexes .entry)) (originsIn (now (origins .entry))))) ⌝ }
+    ensures { λ r. ⌜ laid (r .places) (held columns (now (outxs .exit)) (now (outys .exit)) (now (outbulges .exit)) (now (flags .exit)) (now (indexes .exit)) (now (origins .exit)))
+        ≡ stores (strokesBy leading (before .pen) (tipFirst join connector) eps) (laid (before .places) (held columns (now (outxs .entry)) (now (outys .entry)) (now (outbulges .entry)) (now (flags .entry)) (now (indexes .entry)) (now (origins .entry)))) ⌝ }
     ensures { λ r. ⌜ r .pen ≡ penBy (before .pen) (tipFirst join connector) eps ⌝ }
 {
     let cause = join.cause;
@@ -251,7 +305,10 @@ fn store_tip(
     }
     let tip = connector.to_tip(join.tip);
     store_move(
-        vertices,
+        columns,
+        outxs,
+        outys,
+        outbulges,
         flags,
         indexes,
         origins,
@@ -259,6 +316,59 @@ fn store_tip(
         leading,
         before.pen,
         tip,
+        eps,
+    )
+}
+
+// The connectors of a join: to its tip, if it has one, and on to where the next span starts.
+fn store_connectors(
+    columns: bool,
+    outxs: &mut [f64],
+    outys: &mut [f64],
+    outbulges: &mut [f64],
+    flags: &mut [u8],
+    indexes: &mut [u32],
+    origins: &mut [u32],
+    before: Drawn,
+    leading: u32,
+    connector: Move,
+    join: JoinBoundary,
+    pointed: bool,
+    eps: f64,
+) -> Drawn
+    requires { ⌜ (leading ≡ 0 → Rooms (1 + length (tipFirst join connector)) (laid (before .places) (held columns (now outxs) (now outys) (now outbulges) (now flags) (now indexes) (now origins)))) × (before .pen .number .0 + (1 + length (tipFirst join connector)) < 0x1_0000_0000) ⌝ }
+    requires { ⌜ Coded (connector .origin) × (isPointed (join .cause) ≡ true → pointed ≡ true) ⌝ }
+    ensures { λ r. ⌜ laid (r .places) (held columns (now (outxs .exit)) (now (outys .exit)) (now (outbulges .exit)) (now (flags .exit)) (now (indexes .exit)) (now (origins .exit)))
+        ≡ stores (strokesBy leading (before .pen) (tipFirst join connector ++ connector ∷ []) eps) (laid (before .places) (held columns (now (outxs .entry)) (now (outys .entry)) (now (outbulges .entry)) (now (flags .entry)) (now (indexes .entry)) (now (origins .entry)))) ⌝ }
+    ensures { λ r. ⌜ r .pen ≡ penBy (before .pen) (tipFirst join connector ++ connector ∷ []) eps ⌝ }
+{
+    let tipped = store_tip(
+        columns,
+        outxs,
+        outys,
+        outbulges,
+        flags,
+        indexes,
+        origins,
+        before,
+        leading,
+        connector,
+        join,
+        pointed,
+        eps,
+    );
+    store_move(
+        columns,
+        outxs,
+        outys,
+        outbulges,
+        flags,
+        indexes,
+        origins,
+        tipped.places,
+        leading,
+        tipped.pen,
+        connector,
         eps,
     )
 }
@@ -273,7 +383,10 @@ pub struct Left {
 
 // A turn's span, straight as yet, and its connectors.
 fn store_turn(
-    vertices: &mut [f64],
+    columns: bool,
+    outxs: &mut [f64],
+    outys: &mut [f64],
+    outbulges: &mut [f64],
     flags: &mut [u8],
     indexes: &mut [u32],
     origins: &mut [u32],
@@ -282,17 +395,20 @@ fn store_turn(
     pointed: bool,
     eps: f64,
 ) -> Left
-    requires { ⌜ (turned .walk .leading ≡ 0 → Rooms (2 + length (tipFirst (turned .join) (turned .connector))) (laid places (buffers (now vertices) (now flags) (now indexes) (originsIn (now origins))))) × (turned .walk .pen .number .0 + 3 < 0x1_0000_0000) ⌝ }
+    requires { ⌜ (turned .walk .leading ≡ 0 → Rooms (2 + length (tipFirst (turned .join) (turned .connector))) (laid places (held columns (now outxs) (now outys) (now outbulges) (now flags) (now indexes) (now origins)))) × (turned .walk .pen .number .0 + 3 < 0x1_0000_0000) ⌝ }
     requires { ⌜ Coded (turned .span .origin) × Coded (turned .connector .origin) × (isPointed (turned .join .cause) ≡ true → pointed ≡ true) ⌝ }
-    ensures { λ r. ⌜ laid (r .places) (buffers (now (vertices .exit)) (now (flags .exit)) (now (indexes .exit)) (originsIn (now (origins .exit))))
-        ≡ stores (strokesBy (turned .walk .leading) (turned .walk .pen) (madeBy turned) eps) (laid places (buffers (now (vertices .entry)) (now (flags .entry)) (now (indexes .entry)) (originsIn (now (origins .entry))))) ⌝ }
+    ensures { λ r. ⌜ laid (r .places) (held columns (now (outxs .exit)) (now (outys .exit)) (now (outbulges .exit)) (now (flags .exit)) (now (indexes .exit)) (now (origins .exit)))
+        ≡ stores (strokesBy (turned .walk .leading) (turned .walk .pen) (madeBy turned) eps) (laid places (held columns (now (outxs .entry)) (now (outys .entry)) (now (outbulges .entry)) (now (flags .entry)) (now (indexes .entry)) (now (origins .entry)))) ⌝ }
     ensures { λ r. ⌜ (r .pen ≡ penBy (turned .walk .pen) (madeBy turned) eps) × (r .later ≡ laterOf (places .strokes) turned eps) ⌝ }
 {
     let walk = turned.walk;
     let leading = walk.leading;
     let span = turned.span;
     let half = store_move(
-        vertices,
+        columns,
+        outxs,
+        outys,
+        outbulges,
         flags,
         indexes,
         origins,
@@ -308,8 +424,11 @@ fn store_turn(
         sweep: turned.sweep,
     };
     let connector = turned.connector;
-    let tipped = store_tip(
-        vertices,
+    let whole = store_connectors(
+        columns,
+        outxs,
+        outys,
+        outbulges,
         flags,
         indexes,
         origins,
@@ -320,28 +439,24 @@ fn store_turn(
         pointed,
         eps,
     );
-    let whole = store_move(
-        vertices,
-        flags,
-        indexes,
-        origins,
-        tipped.places,
-        leading,
-        tipped.pen,
-        connector,
-        eps,
-    );
     let pen = whole.pen;
     let places = whole.places;
     Left { pen, places, later }
 }
 
 // How far it is from `vertex` to vertex k.
-fn chord_to(source: &[f64], k: usize, vertex: PlineVertex) -> f64
-    requires { ⌜ 3 * k + 3 ≤ length (now source) ⌝ }
-    ensures { λ r. ⌜ r ≡ chordOf vertex (vertexOf (now (source .entry)) k) ⌝ }
+fn chord_to(
+    columns: bool,
+    xs: &[f64],
+    ys: &[f64],
+    bulges: &[f64],
+    k: usize,
+    vertex: PlineVertex,
+) -> f64
+    requires { ⌜ k < length (verticesIn (lentBy columns (now xs) (now ys) (now bulges))) ⌝ }
+    ensures { λ r. ⌜ r ≡ chordOf vertex (vertexOf (verticesIn (lentBy columns (now (xs .entry)) (now (ys .entry)) (now (bulges .entry)))) k) ⌝ }
 {
-    segments::chord_length(vertex, source::vertex_at(source, k))
+    segments::chord_length(vertex, source::vertex_in(columns, xs, ys, bulges, k))
 }
 
 // The sweep from `vertex` to vertex k, if that is an arc.
@@ -349,18 +464,21 @@ fn sweep_from(
     keys: &mut [u64; 16],
     sweeps: &mut [f64; 16],
     vertex: PlineVertex,
-    source: &[f64],
+    columns: bool,
+    xs: &[f64],
+    ys: &[f64],
+    bulges: &[f64],
     k: usize,
     stop: usize,
 ) -> f64
     requires { ⌜ Memo (now keys) (now sweeps) ⌝ }
-    requires { ⌜ (k < stop) × (3 * stop ≤ length (now source)) ⌝ }
+    requires { ⌜ (k < stop) × (stop ≤ length (verticesIn (lentBy columns (now xs) (now ys) (now bulges)))) ⌝ }
     ensures { λ r. ⌜ (bulgeIsZero vertex ≡ false → r ≡ sweepOf (vertex .bulge)) × Memo (now (keys .exit)) (now (sweeps .exit)) ⌝ }
 {
     if vertex.bulge_is_zero() {
         return 0.0;
     }
-    sweeps::sweep_of(keys, sweeps, vertex.bulge, source, k, stop)
+    sweeps::sweep_of(keys, sweeps, vertex.bulge, columns, xs, ys, bulges, k, stop)
 }
 
 // The walk, and how far its strokes are stored.
@@ -388,7 +506,10 @@ impl Sheet {
 // the two are one test. A bulge is written one turn later. The mode is told beside the settings, for the
 // compiler: it follows a bool from call to call, and leaves the other mode out of the loop.
 fn store_turns(
-    source: &[f64],
+    columns: bool,
+    xs: &[f64],
+    ys: &[f64],
+    bulges: &[f64],
     v: usize,
     closed: bool,
     from: usize,
@@ -396,35 +517,50 @@ fn store_turns(
     first: Sheet,
     settings: Settings,
     pointed: bool,
-    vertices: &mut [f64],
+    outxs: &mut [f64],
+    outys: &mut [f64],
+    outbulges: &mut [f64],
     flags: &mut [u8],
     indexes: &mut [u32],
     origins: &mut [u32],
 ) -> Sheet
     requires { ⌜ pointed ≡ arePointed (settings .corners) ⌝ }
-    requires { ⌜ Starts (movesASegment (settings .corners)) v «from» turns first (now source) (buffers (now vertices) (now flags) (now indexes) (originsIn (now origins))) ⌝ }
-    ensures { λ r. ⌜ trail r (buffers (now (vertices .exit)) (now (flags .exit)) (now (indexes .exit)) (originsIn (now (origins .exit))))
-        ≡ advances closed settings (routed v turns «from» (now (source .entry))) (trail first (buffers (now (vertices .entry)) (now (flags .entry)) (now (indexes .entry)) (originsIn (now (origins .entry))))) ⌝ }
+    requires { ⌜ Starts (movesASegment (settings .corners)) v «from» turns first (verticesIn (lentBy columns (now xs) (now ys) (now bulges))) (held columns (now outxs) (now outys) (now outbulges) (now flags) (now indexes) (now origins)) ⌝ }
+    ensures { λ r. ⌜ trail r (held columns (now (outxs .exit)) (now (outys .exit)) (now (outbulges .exit)) (now (flags .exit)) (now (indexes .exit)) (now (origins .exit)))
+        ≡ advances closed settings (routed v turns «from» (verticesIn (lentBy columns (now (xs .entry)) (now (ys .entry)) (now (bulges .entry))))) (trail first (held columns (now (outxs .entry)) (now (outys .entry)) (now (outbulges .entry)) (now (flags .entry)) (now (indexes .entry)) (now (origins .entry)))) ⌝ }
     ensures { λ r. ⌜ Fit (r .walk) ⌝ }
 {
     let mut walk = first.walk;
     let mut places = first.places;
     let mut k = from;
-    let mut chord = chord_to(source, k, walk.vertex);
+    let mut chord = chord_to(columns, xs, ys, bulges, k, walk.vertex);
     let mut keys = [0u64; 16];
     let mut sweeps = [0.0; 16];
     let mut later = Later::nothing();
     for _turn in 0..turns {
-        let to = source::vertex_at(source, k);
+        let to = source::vertex_in(columns, xs, ys, bulges, k);
         let next = source::next_place(v, k);
-        let ahead = chord_to(source, next, to);
-        let sweep = sweep_from(&mut keys, &mut sweeps, walk.vertex, source, k, v);
+        let ahead = chord_to(columns, xs, ys, bulges, next, to);
+        let sweep = sweep_from(
+            &mut keys,
+            &mut sweeps,
+            walk.vertex,
+            columns,
+            xs,
+            ys,
+            bulges,
+            k,
+            v,
+        );
         let segment = segments::offset_seg(walk.vertex, to, chord, sweep, settings.offset);
         let half = later.begin();
         let turned = walk.turn(to, segment, settings, pointed);
-        let far = later.write(vertices, half, places);
+        let far = later.write(columns, outxs, outys, outbulges, half, places);
         let left = store_turn(
-            vertices,
+            columns,
+            outxs,
+            outys,
+            outbulges,
             flags,
             indexes,
             origins,
@@ -439,16 +575,28 @@ fn store_turns(
         chord = ahead;
         k = next;
     }
-    let places = later.write(vertices, later.begin(), places);
+    let places = later.write(columns, outxs, outys, outbulges, later.begin(), places);
     Sheet { walk, places }
 }
 
-fn clear_vertices(vertices: &mut [f64], from: usize, count: usize)
-    requires { ⌜ from + count ≤ length (now vertices) ⌝ }
-    ensures { λ _. ⌜ now (vertices .exit) ≡ cleared zero from count (now (vertices .entry)) ⌝ }
+fn clear_vertices(
+    columns: bool,
+    outxs: &mut [f64],
+    outys: &mut [f64],
+    outbulges: &mut [f64],
+    from: usize,
+    count: usize,
+)
+    requires { ⌜ from + count ≤ length (heldBy columns (now outxs) (now outys) (now outbulges) .made) ⌝ }
+    ensures { λ _. ⌜ heldBy columns (now (outxs .exit)) (now (outys .exit)) (now (outbulges .exit)) ≡ clearedAt from count (heldBy columns (now (outxs .entry)) (now (outys .entry)) (now (outbulges .entry))) ⌝ }
 {
+    let blank = PlineVertex {
+        x: 0.0,
+        y: 0.0,
+        bulge: 0.0,
+    };
     for j in 0..count {
-        vertices[from + j] = 0.0;
+        put_vertex(columns, outxs, outys, outbulges, from + j, blank);
     }
 }
 
@@ -480,7 +628,10 @@ fn clear_origins(origins: &mut [u32], from: usize, count: usize)
 
 // Zeros from vertex v, flag and origin f, and index i on, up to `room` places of each.
 fn wipe(
-    vertices: &mut [f64],
+    columns: bool,
+    outxs: &mut [f64],
+    outys: &mut [f64],
+    outbulges: &mut [f64],
     flags: &mut [u8],
     indexes: &mut [u32],
     origins: &mut [u32],
@@ -489,10 +640,10 @@ fn wipe(
     f: usize,
     i: usize,
 )
-    requires { ⌜ Within room v f i (buffers (now vertices) (now flags) (now indexes) (originsIn (now origins))) ⌝ }
-    ensures { λ _. ⌜ buffers (now (vertices .exit)) (now (flags .exit)) (now (indexes .exit)) (originsIn (now (origins .exit))) ≡ wiped room v f i (buffers (now (vertices .entry)) (now (flags .entry)) (now (indexes .entry)) (originsIn (now (origins .entry)))) ⌝ }
+    requires { ⌜ Within room v f i (held columns (now outxs) (now outys) (now outbulges) (now flags) (now indexes) (now origins)) ⌝ }
+    ensures { λ _. ⌜ held columns (now (outxs .exit)) (now (outys .exit)) (now (outbulges .exit)) (now (flags .exit)) (now (indexes .exit)) (now (origins .exit)) ≡ wiped room v f i (held columns (now (outxs .entry)) (now (outys .entry)) (now (outbulges .entry)) (now (flags .entry)) (now (indexes .entry)) (now (origins .entry))) ⌝ }
 {
-    clear_vertices(vertices, 3 * v, 3 * room - 3 * v);
+    clear_vertices(columns, outxs, outys, outbulges, v, room - v);
     clear_flags(flags, f, room - f);
     clear_indexes(indexes, i, room - i);
     clear_origins(origins, f, room - f);
@@ -506,7 +657,10 @@ pub enum Built {
 
 // The answer, where all its numbers are finite, and zeros after it; else zeros in all its room.
 fn finish(
-    vertices: &mut [f64],
+    columns: bool,
+    outxs: &mut [f64],
+    outys: &mut [f64],
+    outbulges: &mut [f64],
     flags: &mut [u8],
     indexes: &mut [u32],
     origins: &mut [u32],
@@ -514,13 +668,16 @@ fn finish(
     result: RawOffsetResult,
     room: usize,
 ) -> Built
-    requires { ⌜ Within room (result .vertices) (places .strokes) (places .marks) (buffers (now vertices) (now flags) (now indexes) (originsIn (now origins))) ⌝ }
-    ensures { λ r. ⌜ finished r (buffers (now (vertices .exit)) (now (flags .exit)) (now (indexes .exit)) (originsIn (now (origins .exit))))
-        ≡ finishes room result (laid places (buffers (now (vertices .entry)) (now (flags .entry)) (now (indexes .entry)) (originsIn (now (origins .entry))))) ⌝ }
+    requires { ⌜ Within room (result .vertices) (places .strokes) (places .marks) (held columns (now outxs) (now outys) (now outbulges) (now flags) (now indexes) (now origins)) ⌝ }
+    ensures { λ r. ⌜ finished r (held columns (now (outxs .exit)) (now (outys .exit)) (now (outbulges .exit)) (now (flags .exit)) (now (indexes .exit)) (now (origins .exit)))
+        ≡ finishes room result (laid places (held columns (now (outxs .entry)) (now (outys .entry)) (now (outbulges .entry)) (now (flags .entry)) (now (indexes .entry)) (now (origins .entry)))) ⌝ }
 {
     if places.all_finite() {
         wipe(
-            vertices,
+            columns,
+            outxs,
+            outys,
+            outbulges,
             flags,
             indexes,
             origins,
@@ -531,29 +688,49 @@ fn finish(
         );
         return Built::Done(result);
     }
-    wipe(vertices, flags, indexes, origins, room, 0, 0, 0);
+    wipe(
+        columns,
+        outxs,
+        outys,
+        outbulges,
+        flags,
+        indexes,
+        origins,
+        room,
+        0,
+        0,
+        0,
+    );
     Built::NotFinite
 }
 
 // A closed walk: led in by two turns, from the last vertex, by the closing join.
 fn draw_closed(
-    source: &[f64],
+    columns: bool,
+    xs: &[f64],
+    ys: &[f64],
+    bulges: &[f64],
     v: usize,
     settings: Settings,
     pointed: bool,
     room: usize,
-    vertices: &mut [f64],
+    outxs: &mut [f64],
+    outys: &mut [f64],
+    outbulges: &mut [f64],
     flags: &mut [u8],
     indexes: &mut [u32],
     origins: &mut [u32],
 ) -> Built
-    requires { ⌜ Drawable v v room settings pointed (now source) (buffers (now vertices) (now flags) (now indexes) (originsIn (now origins))) ⌝ }
-    ensures { λ r. ⌜ finished r (buffers (now (vertices .exit)) (now (flags .exit)) (now (indexes .exit)) (originsIn (now (origins .exit))))
-        ≡ builtOf room (drawingOf true settings (verticesOf (now (source .entry)))) (buffers (now (vertices .entry)) (now (flags .entry)) (now (indexes .entry)) (originsIn (now (origins .entry)))) ⌝ }
+    requires { ⌜ Drawable v v room settings pointed (verticesIn (lentBy columns (now xs) (now ys) (now bulges))) (held columns (now outxs) (now outys) (now outbulges) (now flags) (now indexes) (now origins)) ⌝ }
+    ensures { λ r. ⌜ finished r (held columns (now (outxs .exit)) (now (outys .exit)) (now (outbulges .exit)) (now (flags .exit)) (now (indexes .exit)) (now (origins .exit)))
+        ≡ builtOf room (drawingOf true settings (verticesIn (lentBy columns (now (xs .entry)) (now (ys .entry)) (now (bulges .entry))))) (held columns (now (outxs .entry)) (now (outys .entry)) (now (outbulges .entry)) (now (flags .entry)) (now (indexes .entry)) (now (origins .entry))) ⌝ }
 {
-    let first = Sheet::standing(source::vertex_at(source, v - 1), 2);
+    let first = Sheet::standing(source::vertex_in(columns, xs, ys, bulges, v - 1), 2);
     let led = store_turns(
-        source,
+        columns,
+        xs,
+        ys,
+        bulges,
         v,
         true,
         0,
@@ -561,19 +738,26 @@ fn draw_closed(
         first,
         settings,
         pointed,
-        vertices,
+        outxs,
+        outys,
+        outbulges,
         flags,
         indexes,
         origins,
     );
     draw_around(
-        source,
+        columns,
+        xs,
+        ys,
+        bulges,
         v,
         led,
         settings,
         pointed,
         room,
-        vertices,
+        outxs,
+        outys,
+        outbulges,
         flags,
         indexes,
         origins,
@@ -582,25 +766,33 @@ fn draw_closed(
 
 // From the first segment once around, back to its start, and the closing moves.
 fn draw_around(
-    source: &[f64],
+    columns: bool,
+    xs: &[f64],
+    ys: &[f64],
+    bulges: &[f64],
     v: usize,
     led: Sheet,
     settings: Settings,
     pointed: bool,
     room: usize,
-    vertices: &mut [f64],
+    outxs: &mut [f64],
+    outys: &mut [f64],
+    outbulges: &mut [f64],
     flags: &mut [u8],
     indexes: &mut [u32],
     origins: &mut [u32],
 ) -> Built
-    requires { ⌜ Drawable v v room settings pointed (now source) (buffers (now vertices) (now flags) (now indexes) (originsIn (now origins))) × Entered settings led ⌝ }
-    ensures { λ r. ⌜ finished r (buffers (now (vertices .exit)) (now (flags .exit)) (now (indexes .exit)) (originsIn (now (origins .exit))))
-        ≡ closes room (led .walk .entry) (settings .eps) (advances true settings (routed v (v - 1) (nextOf v 1) (now (source .entry))) (trail led (buffers (now (vertices .entry)) (now (flags .entry)) (now (indexes .entry)) (originsIn (now (origins .entry)))))) ⌝ }
+    requires { ⌜ Drawable v v room settings pointed (verticesIn (lentBy columns (now xs) (now ys) (now bulges))) (held columns (now outxs) (now outys) (now outbulges) (now flags) (now indexes) (now origins)) × Entered settings led ⌝ }
+    ensures { λ r. ⌜ finished r (held columns (now (outxs .exit)) (now (outys .exit)) (now (outbulges .exit)) (now (flags .exit)) (now (indexes .exit)) (now (origins .exit)))
+        ≡ closes room (led .walk .entry) (settings .eps) (advances true settings (routed v (v - 1) (nextOf v 1) (verticesIn (lentBy columns (now (xs .entry)) (now (ys .entry)) (now (bulges .entry))))) (trail led (held columns (now (outxs .entry)) (now (outys .entry)) (now (outbulges .entry)) (now (flags .entry)) (now (indexes .entry)) (now (origins .entry))))) ⌝ }
 {
     let walk = led.walk;
     let next = source::next_place(v, 1);
     let sheet = store_turns(
-        source,
+        columns,
+        xs,
+        ys,
+        bulges,
         v,
         true,
         next,
@@ -608,13 +800,18 @@ fn draw_around(
         led,
         settings,
         pointed,
-        vertices,
+        outxs,
+        outys,
+        outbulges,
         flags,
         indexes,
         origins,
     );
     draw_closing(
-        vertices,
+        columns,
+        outxs,
+        outys,
+        outbulges,
         flags,
         indexes,
         origins,
@@ -629,7 +826,10 @@ fn draw_around(
 // The closing moves: the last span, up to the closing join, and its connectors. Where the two ends of that
 // join are one point, the connector is dropped like any move that leads nowhere.
 fn store_closing(
-    vertices: &mut [f64],
+    columns: bool,
+    outxs: &mut [f64],
+    outys: &mut [f64],
+    outbulges: &mut [f64],
     flags: &mut [u8],
     indexes: &mut [u32],
     origins: &mut [u32],
@@ -638,16 +838,19 @@ fn store_closing(
     pointed: bool,
     eps: f64,
 ) -> Places
-    requires { ⌜ Rooms (length (closingMoves (sheet .walk) closing)) (laid (sheet .places) (buffers (now vertices) (now flags) (now indexes) (originsIn (now origins)))) ⌝ }
+    requires { ⌜ Rooms (length (closingMoves (sheet .walk) closing)) (laid (sheet .places) (held columns (now outxs) (now outys) (now outbulges) (now flags) (now indexes) (now origins))) ⌝ }
     requires { ⌜ (sheet .walk .pen .number .0 + length (closingMoves (sheet .walk) closing) < 0x1_0000_0000) × (sheet .walk .source .0 < 0x8000_0000) ⌝ }
     requires { ⌜ (isPointed (closing .cause) ≡ true → pointed ≡ true) ⌝ }
-    ensures { λ r. ⌜ laid r (buffers (now (vertices .exit)) (now (flags .exit)) (now (indexes .exit)) (originsIn (now (origins .exit))))
-        ≡ stores (strokesBy 0 (sheet .walk .pen) (closingMoves (sheet .walk) closing) eps) (laid (sheet .places) (buffers (now (vertices .entry)) (now (flags .entry)) (now (indexes .entry)) (originsIn (now (origins .entry))))) ⌝ }
+    ensures { λ r. ⌜ laid r (held columns (now (outxs .exit)) (now (outys .exit)) (now (outbulges .exit)) (now (flags .exit)) (now (indexes .exit)) (now (origins .exit)))
+        ≡ stores (strokesBy 0 (sheet .walk .pen) (closingMoves (sheet .walk) closing) eps) (laid (sheet .places) (held columns (now (outxs .entry)) (now (outys .entry)) (now (outbulges .entry)) (now (flags .entry)) (now (indexes .entry)) (now (origins .entry)))) ⌝ }
 {
     let walk = sheet.walk;
     let span = walk.span_to(closing.current_end, closing.current_param);
     let half = store_move(
-        vertices,
+        columns,
+        outxs,
+        outys,
+        outbulges,
         flags,
         indexes,
         origins,
@@ -658,8 +861,11 @@ fn store_closing(
         eps,
     );
     let connector = Move::connector(walk.source, closing);
-    let tipped = store_tip(
-        vertices,
+    let whole = store_connectors(
+        columns,
+        outxs,
+        outys,
+        outbulges,
         flags,
         indexes,
         origins,
@@ -670,23 +876,15 @@ fn store_closing(
         pointed,
         eps,
     );
-    let whole = store_move(
-        vertices,
-        flags,
-        indexes,
-        origins,
-        tipped.places,
-        0,
-        tipped.pen,
-        connector,
-        eps,
-    );
     whole.places
 }
 
 // The closing moves and what they finish.
 fn draw_closing(
-    vertices: &mut [f64],
+    columns: bool,
+    outxs: &mut [f64],
+    outys: &mut [f64],
+    outbulges: &mut [f64],
     flags: &mut [u8],
     indexes: &mut [u32],
     origins: &mut [u32],
@@ -696,12 +894,15 @@ fn draw_closing(
     eps: f64,
     room: usize,
 ) -> Built
-    requires { ⌜ Lasts (length (closingMoves (sheet .walk) closing)) room sheet (buffers (now vertices) (now flags) (now indexes) (originsIn (now origins))) × (isPointed (closing .cause) ≡ true → pointed ≡ true) ⌝ }
-    ensures { λ r. ⌜ finished r (buffers (now (vertices .exit)) (now (flags .exit)) (now (indexes .exit)) (originsIn (now (origins .exit))))
-        ≡ closes room closing eps (trail sheet (buffers (now (vertices .entry)) (now (flags .entry)) (now (indexes .entry)) (originsIn (now (origins .entry))))) ⌝ }
+    requires { ⌜ Lasts (length (closingMoves (sheet .walk) closing)) room sheet (held columns (now outxs) (now outys) (now outbulges) (now flags) (now indexes) (now origins)) × (isPointed (closing .cause) ≡ true → pointed ≡ true) ⌝ }
+    ensures { λ r. ⌜ finished r (held columns (now (outxs .exit)) (now (outys .exit)) (now (outbulges .exit)) (now (flags .exit)) (now (indexes .exit)) (now (origins .exit)))
+        ≡ closes room closing eps (trail sheet (held columns (now (outxs .entry)) (now (outys .entry)) (now (outbulges .entry)) (now (flags .entry)) (now (indexes .entry)) (now (origins .entry)))) ⌝ }
 {
     let places = store_closing(
-        vertices,
+        columns,
+        outxs,
+        outys,
+        outbulges,
         flags,
         indexes,
         origins,
@@ -715,12 +916,26 @@ fn draw_closing(
         indexes: places.marks as u32,
         closed: places.strokes != 0,
     };
-    finish(vertices, flags, indexes, origins, places, result, room)
+    finish(
+        columns,
+        outxs,
+        outys,
+        outbulges,
+        flags,
+        indexes,
+        origins,
+        places,
+        result,
+        room,
+    )
 }
 
 // After an open walk: its last vertex. A lone vertex has no offset geometry.
 fn finish_open(
-    vertices: &mut [f64],
+    columns: bool,
+    outxs: &mut [f64],
+    outys: &mut [f64],
+    outbulges: &mut [f64],
     flags: &mut [u8],
     indexes: &mut [u32],
     origins: &mut [u32],
@@ -728,14 +943,26 @@ fn finish_open(
     pen: Pen,
     room: usize,
 ) -> Built
-    requires { ⌜ Within room (places .strokes + 1) (places .strokes) (places .marks) (buffers (now vertices) (now flags) (now indexes) (originsIn (now origins))) ⌝ }
-    ensures { λ r. ⌜ finished r (buffers (now (vertices .exit)) (now (flags .exit)) (now (indexes .exit)) (originsIn (now (origins .exit))))
-        ≡ finishesOpen room pen (laid places (buffers (now (vertices .entry)) (now (flags .entry)) (now (indexes .entry)) (originsIn (now (origins .entry))))) ⌝ }
+    requires { ⌜ Within room (places .strokes + 1) (places .strokes) (places .marks) (held columns (now outxs) (now outys) (now outbulges) (now flags) (now indexes) (now origins)) ⌝ }
+    ensures { λ r. ⌜ finished r (held columns (now (outxs .exit)) (now (outys .exit)) (now (outbulges .exit)) (now (flags .exit)) (now (indexes .exit)) (now (origins .exit)))
+        ≡ finishesOpen room pen (laid places (held columns (now (outxs .entry)) (now (outys .entry)) (now (outbulges .entry)) (now (flags .entry)) (now (indexes .entry)) (now (origins .entry)))) ⌝ }
 {
     let k = places.strokes;
     let j = places.marks;
     if k == 0 {
-        wipe(vertices, flags, indexes, origins, room, 0, 0, 0);
+        wipe(
+            columns,
+            outxs,
+            outys,
+            outbulges,
+            flags,
+            indexes,
+            origins,
+            room,
+            0,
+            0,
+            0,
+        );
         return Built::Done(RawOffsetResult::empty());
     }
     let last = PlineVertex::from_vector2(pen.last, 0.0);
@@ -749,29 +976,48 @@ fn finish_open(
         indexes: j as u32,
         closed: false,
     };
-    put_vertex(vertices, k, last);
-    finish(vertices, flags, indexes, origins, ended, result, room)
+    put_vertex(columns, outxs, outys, outbulges, k, last);
+    finish(
+        columns,
+        outxs,
+        outys,
+        outbulges,
+        flags,
+        indexes,
+        origins,
+        ended,
+        result,
+        room,
+    )
 }
 
 // An open walk: led in by one turn, from the first vertex. A lone collapsed arc has no offset geometry.
 fn draw_open(
-    source: &[f64],
+    columns: bool,
+    xs: &[f64],
+    ys: &[f64],
+    bulges: &[f64],
     v: usize,
     settings: Settings,
     pointed: bool,
     room: usize,
-    vertices: &mut [f64],
+    outxs: &mut [f64],
+    outys: &mut [f64],
+    outbulges: &mut [f64],
     flags: &mut [u8],
     indexes: &mut [u32],
     origins: &mut [u32],
 ) -> Built
-    requires { ⌜ Drawable v (v - 1) room settings pointed (now source) (buffers (now vertices) (now flags) (now indexes) (originsIn (now origins))) ⌝ }
-    ensures { λ r. ⌜ finished r (buffers (now (vertices .exit)) (now (flags .exit)) (now (indexes .exit)) (originsIn (now (origins .exit))))
-        ≡ builtOf room (drawingOf false settings (verticesOf (now (source .entry)))) (buffers (now (vertices .entry)) (now (flags .entry)) (now (indexes .entry)) (originsIn (now (origins .entry)))) ⌝ }
+    requires { ⌜ Drawable v (v - 1) room settings pointed (verticesIn (lentBy columns (now xs) (now ys) (now bulges))) (held columns (now outxs) (now outys) (now outbulges) (now flags) (now indexes) (now origins)) ⌝ }
+    ensures { λ r. ⌜ finished r (held columns (now (outxs .exit)) (now (outys .exit)) (now (outbulges .exit)) (now (flags .exit)) (now (indexes .exit)) (now (origins .exit)))
+        ≡ builtOf room (drawingOf false settings (verticesIn (lentBy columns (now (xs .entry)) (now (ys .entry)) (now (bulges .entry))))) (held columns (now (outxs .entry)) (now (outys .entry)) (now (outbulges .entry)) (now (flags .entry)) (now (indexes .entry)) (now (origins .entry))) ⌝ }
 {
-    let first = Sheet::standing(source::vertex_at(source, 0), 1);
+    let first = Sheet::standing(source::vertex_in(columns, xs, ys, bulges, 0), 1);
     let sheet = store_turns(
-        source,
+        columns,
+        xs,
+        ys,
+        bulges,
         v,
         false,
         1,
@@ -779,13 +1025,18 @@ fn draw_open(
         first,
         settings,
         pointed,
-        vertices,
+        outxs,
+        outys,
+        outbulges,
         flags,
         indexes,
         origins,
     );
     draw_last(
-        vertices,
+        columns,
+        outxs,
+        outys,
+        outbulges,
         flags,
         indexes,
         origins,
@@ -798,7 +1049,10 @@ fn draw_open(
 
 // The last span of an open walk, which is its only one where it is `alone`.
 fn draw_last(
-    vertices: &mut [f64],
+    columns: bool,
+    outxs: &mut [f64],
+    outys: &mut [f64],
+    outbulges: &mut [f64],
     flags: &mut [u8],
     indexes: &mut [u32],
     origins: &mut [u32],
@@ -807,19 +1061,34 @@ fn draw_last(
     eps: f64,
     room: usize,
 ) -> Built
-    requires { ⌜ Lasts 2 room sheet (buffers (now vertices) (now flags) (now indexes) (originsIn (now origins))) ⌝ }
-    ensures { λ r. ⌜ finished r (buffers (now (vertices .exit)) (now (flags .exit)) (now (indexes .exit)) (originsIn (now (origins .exit))))
-        ≡ lasts room alone eps (trail sheet (buffers (now (vertices .entry)) (now (flags .entry)) (now (indexes .entry)) (originsIn (now (origins .entry))))) ⌝ }
+    requires { ⌜ Lasts 2 room sheet (held columns (now outxs) (now outys) (now outbulges) (now flags) (now indexes) (now origins)) ⌝ }
+    ensures { λ r. ⌜ finished r (held columns (now (outxs .exit)) (now (outys .exit)) (now (outbulges .exit)) (now (flags .exit)) (now (indexes .exit)) (now (origins .exit)))
+        ≡ lasts room alone eps (trail sheet (held columns (now (outxs .entry)) (now (outys .entry)) (now (outbulges .entry)) (now (flags .entry)) (now (indexes .entry)) (now (origins .entry)))) ⌝ }
 {
     let walk = sheet.walk;
     let current = walk.current;
     if moves::both(alone, current.is_collapsed()) {
-        wipe(vertices, flags, indexes, origins, room, 0, 0, 0);
+        wipe(
+            columns,
+            outxs,
+            outys,
+            outbulges,
+            flags,
+            indexes,
+            origins,
+            room,
+            0,
+            0,
+            0,
+        );
         return Built::Done(RawOffsetResult::empty());
     }
     let span = walk.span_to(current.end(), 1.0);
     let last = store_move(
-        vertices,
+        columns,
+        outxs,
+        outys,
+        outbulges,
         flags,
         indexes,
         origins,
@@ -830,7 +1099,10 @@ fn draw_last(
         eps,
     );
     finish_open(
-        vertices,
+        columns,
+        outxs,
+        outys,
+        outbulges,
         flags,
         indexes,
         origins,
@@ -842,41 +1114,56 @@ fn draw_last(
 
 // The raw offset of a source of v vertices, in the first `room` places of each buffer.
 pub fn draw(
-    source: &[f64],
+    columns: bool,
+    xs: &[f64],
+    ys: &[f64],
+    bulges: &[f64],
     v: usize,
     closed: bool,
     settings: Settings,
     pointed: bool,
     room: usize,
-    vertices: &mut [f64],
+    outxs: &mut [f64],
+    outys: &mut [f64],
+    outbulges: &mut [f64],
     flags: &mut [u8],
     indexes: &mut [u32],
     origins: &mut [u32],
 ) -> Built
-    requires { ⌜ Drawable v (segmentsOf closed v) room settings pointed (now source) (buffers (now vertices) (now flags) (now indexes) (originsIn (now origins))) ⌝ }
-    ensures { λ r. ⌜ finished r (buffers (now (vertices .exit)) (now (flags .exit)) (now (indexes .exit)) (originsIn (now (origins .exit))))
-        ≡ builtOf room (drawingOf closed settings (verticesOf (now (source .entry)))) (buffers (now (vertices .entry)) (now (flags .entry)) (now (indexes .entry)) (originsIn (now (origins .entry)))) ⌝ }
+    requires { ⌜ Drawable v (segmentsOf closed v) room settings pointed (verticesIn (lentBy columns (now xs) (now ys) (now bulges))) (held columns (now outxs) (now outys) (now outbulges) (now flags) (now indexes) (now origins)) ⌝ }
+    ensures { λ r. ⌜ finished r (held columns (now (outxs .exit)) (now (outys .exit)) (now (outbulges .exit)) (now (flags .exit)) (now (indexes .exit)) (now (origins .exit)))
+        ≡ builtOf room (drawingOf closed settings (verticesIn (lentBy columns (now (xs .entry)) (now (ys .entry)) (now (bulges .entry))))) (held columns (now (outxs .entry)) (now (outys .entry)) (now (outbulges .entry)) (now (flags .entry)) (now (indexes .entry)) (now (origins .entry))) ⌝ }
 {
     if closed {
         return draw_closed(
-            source,
+            columns,
+            xs,
+            ys,
+            bulges,
             v,
             settings,
             pointed,
             room,
-            vertices,
+            outxs,
+            outys,
+            outbulges,
             flags,
             indexes,
             origins,
         );
     }
     draw_open(
-        source,
+        columns,
+        xs,
+        ys,
+        bulges,
         v,
         settings,
         pointed,
         room,
-        vertices,
+        outxs,
+        outys,
+        outbulges,
         flags,
         indexes,
         origins,
@@ -885,23 +1172,40 @@ pub fn draw(
 
 // The source as it is, with no flag set and each segment its own span: what an offset of zero draws.
 pub fn copy(
-    source: &[f64],
+    columns: bool,
+    xs: &[f64],
+    ys: &[f64],
+    bulges: &[f64],
     v: usize,
     closed: bool,
     room: usize,
-    vertices: &mut [f64],
+    outxs: &mut [f64],
+    outys: &mut [f64],
+    outbulges: &mut [f64],
     flags: &mut [u8],
     indexes: &mut [u32],
     origins: &mut [u32],
 ) -> RawOffsetResult
-    requires { ⌜ Ready v room (now source) (buffers (now vertices) (now flags) (now indexes) (originsIn (now origins))) × (2 * segmentsOf closed v ≤ room) × (room ≤ 12288) ⌝ }
-    ensures { λ r. ⌜ (r ≡ resultOf (copied closed (verticesOf (now (source .entry)))))
-        × (buffers (now (vertices .exit)) (now (flags .exit)) (now (indexes .exit)) (originsIn (now (origins .exit)))
-        ≡ shown room (copied closed (verticesOf (now (source .entry)))) (buffers (now (vertices .entry)) (now (flags .entry)) (now (indexes .entry)) (originsIn (now (origins .entry))))) ⌝ }
+    requires { ⌜ Ready v room (verticesIn (lentBy columns (now xs) (now ys) (now bulges))) (held columns (now outxs) (now outys) (now outbulges) (now flags) (now indexes) (now origins)) × (2 * segmentsOf closed v ≤ room) × (room ≤ 12288) ⌝ }
+    ensures { λ r. ⌜ (r ≡ resultOf (copied closed (verticesIn (lentBy columns (now (xs .entry)) (now (ys .entry)) (now (bulges .entry))))))
+        × (held columns (now (outxs .exit)) (now (outys .exit)) (now (outbulges .exit)) (now (flags .exit)) (now (indexes .exit)) (now (origins .exit))
+        ≡ showing room (copied closed (verticesIn (lentBy columns (now (xs .entry)) (now (ys .entry)) (now (bulges .entry))))) (held columns (now (outxs .entry)) (now (outys .entry)) (now (outbulges .entry)) (now (flags .entry)) (now (indexes .entry)) (now (origins .entry)))) ⌝ }
 {
-    copy_numbers(source, 3 * v, vertices);
+    copy_vertices(columns, xs, ys, bulges, v, outxs, outys, outbulges);
     let count = source::segment_count(v, closed);
-    wipe(vertices, flags, indexes, origins, room, v, 0, 0);
+    wipe(
+        columns,
+        outxs,
+        outys,
+        outbulges,
+        flags,
+        indexes,
+        origins,
+        room,
+        v,
+        0,
+        0,
+    );
     put_spans(origins, count);
     RawOffsetResult {
         vertices: v as u32,
@@ -910,13 +1214,36 @@ pub fn copy(
     }
 }
 
-fn copy_numbers(source: &[f64], count: usize, vertices: &mut [f64])
-    requires { ⌜ (count ≡ length (now source)) × (count ≤ length (now vertices)) ⌝ }
-    ensures { λ _. ⌜ now (vertices .exit) ≡ over (now (source .entry)) (now (vertices .entry)) ⌝ }
+fn copy_numbers(source: &[f64], count: usize, numbers: &mut [f64])
+    requires { ⌜ (count ≤ length (now source)) × (count ≤ length (now numbers)) ⌝ }
+    ensures { λ _. ⌜ now (numbers .exit) ≡ over (take count (now (source .entry))) (now (numbers .entry)) ⌝ }
 {
     for i in 0..count {
-        vertices[i] = source[i];
+        numbers[i] = source[i];
     }
+}
+
+// The source as it is, list by list.
+fn copy_vertices(
+    columns: bool,
+    xs: &[f64],
+    ys: &[f64],
+    bulges: &[f64],
+    v: usize,
+    outxs: &mut [f64],
+    outys: &mut [f64],
+    outbulges: &mut [f64],
+)
+    requires { ⌜ (v ≡ length (verticesIn (lentBy columns (now xs) (now ys) (now bulges)))) × (v ≤ length (heldBy columns (now outxs) (now outys) (now outbulges) .made)) ⌝ }
+    ensures { λ _. ⌜ heldBy columns (now (outxs .exit)) (now (outys .exit)) (now (outbulges .exit)) ≡ overAt (verticesIn (lentBy columns (now (xs .entry)) (now (ys .entry)) (now (bulges .entry)))) (heldBy columns (now (outxs .entry)) (now (outys .entry)) (now (outbulges .entry))) ⌝ }
+{
+    if columns {
+        copy_numbers(xs, v, outxs);
+        copy_numbers(ys, v, outys);
+        copy_numbers(bulges, v, outbulges);
+        return;
+    }
+    copy_numbers(xs, 3 * v, outxs);
 }
 
 // The spans of the first segments, each its own.

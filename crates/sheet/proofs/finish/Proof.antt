@@ -1,6 +1,7 @@
 -- `sheet::finish` meets its contract. Assumes nothing.
 use borrow.Author.Needs.{needs}
 use mathlib.Core.Path.{sym, ap, _∙_}
+use native.Mathlib.Omega.{arith}
 use Rattle.floats.proofs.Choice.{yes, no}
 use Rattle.sheet.specs.InnerSteps.{finishes, finished}
 use Rattle.sheet.specs.declared.Built.the-variants.{Done, NotFinite}
@@ -10,16 +11,26 @@ use Rattle.sheet.proofs.finish.Tie as tie
 returns : tie.Need-returns
 unfolding finishes
 returns c =
-    let end = c .before .before .before .before .before .before .before .before in
-    let then = end .before .before .before .before .before .before in
-    yes _ _ _ (sym (then .before .all-finite .ensures) ∙ then .if1 .taken) (ap (finished (Done _)) (end .wipe .ensures))
+    let at-wipe = c .before .before .before .before .before .before .before .before .before .before .before .before in
+    let at-if1 = at-wipe .before .before .before .before .before .before .before .before in
+    let at-all-finite = at-if1 .before in
+    yes _ _ _ (sym (at-all-finite .all-finite .ensures) ∙ at-if1 .if1 .taken) (ap (finished (Done _)) (at-wipe .wipe .ensures))
+
+wipe-requires-2 : tie.Need-wipe-requires-2
+wipe-requires-2 c κs =
+    let p = c .before .before .before .before .before .before .before .before .before .before .before .before .before .before .pre in
+    record { small = p .small; from-vertex = omega arith; from-flag = omega arith; from-index = omega arith; vertices = p .vertices; flags = p .flags; indexes = p .indexes; origins = p .origins }
 
 returns-2 : tie.Need-returns-2
 unfolding finishes
 returns-2 c =
-    let end = c .before .before .before .before .before .before .before .before in
-    let else = end .before .before .before .before .before in
-    no _ _ _ (sym (else .before .all-finite .ensures) ∙ else .if1 .left) (ap (finished NotFinite) (end .wipe2 .ensures))
+    let at-wipe2 = c .before .before .before .before .before .before .before .before .before .before .before .before in
+    let at-if1 = at-wipe2 .before .before .before .before .before .before .before in
+    let at-all-finite = at-if1 .before in
+    no _ _ _ (sym (at-all-finite .all-finite .ensures) ∙ at-if1 .if1 .left) (ap (finished NotFinite) (at-wipe2 .wipe2 .ensures))
+
+wipe-requires : tie.Need-wipe-requires
+wipe-requires c κs = c .before .before .before .before .before .before .before .before .before .before .before .before .before .before .before .pre
 
 pub finish-spec : {M : Type 1} → statement M
 finish-spec =
@@ -27,13 +38,17 @@ finish-spec =
     (tie.spec
     (λ c κs. tt)
     (λ c. search needs)
-    (λ c κs. search needs)
+    wipe-requires
+    (λ c. search needs)
+    (λ c. search needs)
     (λ c. search needs)
     (λ c. search needs)
     (λ c. search needs)
     (λ c. search needs)
     returns
-    (λ c κs. search needs)
+    wipe-requires-2
+    (λ c. search needs)
+    (λ c. search needs)
     (λ c. search needs)
     (λ c. search needs)
     (λ c. search needs)

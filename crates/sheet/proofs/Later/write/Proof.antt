@@ -1,7 +1,6 @@
 -- `sheet::Later::write` meets its contract. Assumes nothing.
 use borrow.Author.Needs.{needs}
-use mathlib.Core.Path.{refl, sym}
-use native.Mathlib.Omega.{arith}
+use mathlib.Core.Path.{refl, sym, _∙_}
 use borrow.Author.Tests.{not-true, not-false}
 use Rattle.floats.proofs.Choice.{yes, no}
 use Rattle.angles.specs.Angle.{tanOf, bulgeOf}
@@ -13,26 +12,27 @@ use Rattle.sheet.proofs.Later.write.Tie as tie
 
 returns : tie.Need-returns
 unfolding bulgedAt
-returns c = let none = not-true _ (c .if1 .taken) in (no _ _ _ none refl, sym (reached-none (c .before .before .before .args .self) _ none))
+returns c =
+    let start = c .before .before .before .before .before in
+    let none = not-true _ (c .if1 .taken) in (no _ _ _ none refl, sym (reached-none (start .args .self) _ none))
+
+put-bulge-requires : tie.Need-put-bulge-requires
+put-bulge-requires c κs =
+    let at-if1 = c .before .before .before .before in
+    let start = at-if1 .before .before .before .before .before in
+    start .pre .1 (not-false _ (at-if1 .if1 .left))
 
 returns-2 : tie.Need-returns-2
 unfolding bulgedAt tanOf bulgeOf
 returns-2 c =
-    let tan = c .before in
-    let due = not-false _ (tan .before .if1 .left) in
-    let b = tan .tan-by-eighth .ensures in
-    let half = tan .before .before .before .before .pre .0 due in
-    (yes _ _ _ due (rw (b, half)), rw (reached-due (tan .before .before .before .before .args .self) _ due, less-itself, doubt-more, b, half))
+    let at-put-bulge = c .before .before .before .before .before .before .before in
+    let at-tan-by-eighth = at-put-bulge .before .before .before .before in
+    let at-if1 = at-tan-by-eighth .before in
+    let start = at-if1 .before .before .before .before .before in
+    let due = not-false _ (at-if1 .if1 .left) in
+    let b = at-tan-by-eighth .tan-by-eighth .ensures in
+    let half = start .pre .0 due in
+    (yes _ _ _ due (at-put-bulge .put-bulge .ensures ∙ rw (b, half)), rw (reached-due (start .args .self) _ due, less-itself, doubt-more, b, half))
 
 pub write-spec : {M : Type 1} → statement M
-write-spec =
-    tie.close
-    (tie.spec
-    returns
-    (λ c κs. tt)
-    (λ c. omega (arith, c .before .before .before .before .pre .1 (not-false _ (c .before .if1 .left))))
-    (λ c. omega (arith, c .before .before .before .before .pre .1 (not-false _ (c .before .if1 .left))))
-    (λ c. omega (arith, c .before .before .before .before .pre .1 (not-false _ (c .before .if1 .left))))
-    (λ c. omega (arith, c .before .before .before .before .pre .1 (not-false _ (c .before .if1 .left))))
-    (λ c. search needs)
-    returns-2)
+write-spec = tie.close (tie.spec returns (λ c κs. tt) put-bulge-requires (λ c. search needs) (λ c. search needs) (λ c. search needs) returns-2)
