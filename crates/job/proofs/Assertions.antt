@@ -15,7 +15,7 @@ use Rattle.vectors.specs.declared.Vector2.{Vector2}
 use Rattle.segments.specs.declared.RawOffsetSeg.{RawOffsetSeg}
 use Rattle.joins.specs.declared.JoinBoundary.{JoinBoundary}
 use Rattle.refusals.specs.declared.Place.the-variants.{Nowhere}
-use Rattle.source.specs.Source.{verticesOf}
+use Rattle.source.specs.Source.{verticesIn}
 use Rattle.refusals.specs.Limits.{leastEps, mostEps, inside, goodVertex, goodOffset, goodEps, goodCorners, numberTests, firstFrom}
 use Rattle.refusals.proofs.First.{by-test}
 use Rattle.refusals.proofs.Bad.{passes, not-fails}
@@ -50,9 +50,9 @@ module _ (j : Job) (numbers : Numbers j) where
   unfolding numberTests
   above =
       let good = goodEps (j .settings .eps) in
-      let bad = map (λ v. not (goodVertex v)) (verticesOf (j .source)) in
+      let bad = map (λ v. not (goodVertex v)) (verticesIn (j .source)) in
       let offset = not (goodOffset (j .settings .offset)) ∷ [] in
-      let n = number-nowhere (verticesOf (j .source)) (j .settings) .1 (numbers .good) in
+      let n = number-nowhere (verticesIn (j .source)) (j .settings) .1 (numbers .good) in
       let after = not (goodCorners (j .settings .corners)) ∷ [] in
       let f : not good ≡ false = one-fails 0 (bad ++ offset) (not good) after (rw (append-assoc bad offset (not good ∷ after)) n) in
       eps-above (j .settings .eps) (by-test good (λ t. t) (λ t. absurd (true≢false (sym (not-fails good .1 t) ∙ f))))

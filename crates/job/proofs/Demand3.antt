@@ -13,8 +13,7 @@ use Rattle.vectors.specs.declared.Vector2.{Vector2}
 use Rattle.segments.specs.declared.PlineVertex.{PlineVertex}
 use Rattle.segments.specs.declared.Settings.{Settings}
 use Rattle.segments.specs.declared.SourceSegment.{SourceSegment}
-use Rattle.source.specs.Source.{verticesOf}
-use Rattle.source.proofs.Source.{length-vertices}
+use Rattle.source.specs.Source.{verticesIn}
 use Rattle.moves.specs.declared.Move.{Move}
 use Rattle.moves.specs.declared.Origin.the-variants.{Connector}
 use Rattle.moves.specs.Drawing.{Drawing, nothing, moveEnd, kept, drawnOpen, drawnClosed, allFinite, emptyResult, resultOf}
@@ -100,7 +99,7 @@ module _ (j : Job) (a b : PlineVertex) (vs : List PlineVertex) where
   abbrev d : Drawing
   d = the-drawing (j .settings) a b vs (j .closed)
 
-  the-walk : verticesOf (j .source) ≡ a ∷ b ∷ vs → loneCollapsed (j .closed) (j .settings) (verticesOf (j .source)) ≡ false → drawing j ≡ d
+  the-walk : verticesIn (j .source) ≡ a ∷ b ∷ vs → loneCollapsed (j .closed) (j .settings) (verticesIn (j .source)) ≡ false → drawing j ≡ d
   unfolding drawingOf
   the-walk source lone = rw source (sym (no (loneCollapsed (j .closed) (j .settings) (a ∷ b ∷ vs)) nothing d (rw source at lone) refl))
 
@@ -150,7 +149,7 @@ module _ (j : Job) (a b : PlineVertex) (vs : List PlineVertex) where
       not-one : length ks ≡ 1 → ⊥
       not-one n = closed-never-one (j .settings .eps) p before closing home (c .some) (ap length (sym all-kept) ∙ n)
 
-  claim : verticesOf (j .source) ≡ a ∷ b ∷ vs → Walks j → Demand3 j
+  claim : verticesIn (j .source) ≡ a ∷ b ∷ vs → Walks j → Demand3 j
   claim source ok = record {
     start = p;
     moves = ms;
@@ -160,7 +159,7 @@ module _ (j : Job) (a b : PlineVertex) (vs : List PlineVertex) where
     drawing = d;
     answer = ap (λ o. o .answer) is;
     buffers = ap (λ o. o .buffers) is;
-    room = rw (← same, ← length-vertices (j .source)) (drawing-fits (j .closed) (j .settings) (verticesOf (j .source)) .vertices);
+    room = rw (← same) (drawing-fits (j .closed) (j .settings) (verticesIn (j .source)) .vertices);
     opened = open-output counts;
     closed = closed-output counts;
     none = λ h. counts ∙ none (j .settings) a b vs (j .closed) h;
@@ -189,5 +188,5 @@ module _ (j : Job) (a b : PlineVertex) (vs : List PlineVertex) where
 
 pub demand-3 : (j : Job) → Walks j → Demand3 j
 demand-3 j ok =
-    let w = two-vertices (verticesOf (j .source)) (rw (length-vertices (j .source)) (ok .two)) in
+    let w = two-vertices (verticesIn (j .source)) (ok .two) in
     claim j (w .0) (w .1) (w .2) (w .3) ok

@@ -1,10 +1,10 @@
 -- What the code's tests and calls show of the job, from each test on. Assumes nothing.
 use mathlib.Core.Path.{_≡_, refl, sym, ap, _∙_}
-use mathlib.Core.List.{List}
-use mathlib.Core.Bool.{Bool, true, false, not}
-use Prim.Native.Nat.{ℕ, _*_, _/_, _%_, _≤_, _<_}
+use mathlib.Core.List.{List, []}
+use mathlib.Core.Bool.{Bool, true, false, not, true≢false}
+use Prim.Native.Nat.{ℕ, _*_, _≤_, _<_}
 use native.Mathlib.Omega.{arith}
-use borrow.Author.Tests.{not-false}
+use borrow.Author.Tests.{not-true, not-false}
 use lib.Dec.{leb}
 use lib.ListN.{length}
 use lib.Ieee.{Float, eq}
@@ -16,8 +16,9 @@ use Rattle.segments.specs.declared.Corners.{Corners}
 use Rattle.segments.specs.declared.Corners.the-variants.{Round, Pointed}
 use Rattle.segments.specs.declared.Settings.{Settings}
 use Rattle.segments.specs.Modes.{arePointed}
-use Rattle.source.specs.Source.{verticesOf, segmentsOf}
-use Rattle.source.proofs.Source.{length-vertices}
+use Rattle.source.specs.Source.{Lent, rows, columns, verticesIn, Whole, segmentsOf}
+use Rattle.source.specs.InnerSteps.{lentBy, countBy, wholeBy}
+use Rattle.source.proofs.Source.{count-is, whole-is, whole-told, whole-passes}
 use Rattle.source.proofs.Segments.{segments-none, segments-most}
 use Rattle.refusals.specs.declared.Refusal.the-variants.{Ragged, TooMany, BadNumber, NoRoom, Repeated, NotFinite}
 use Rattle.refusals.specs.declared.Place.the-variants.{Nowhere, At}
@@ -30,15 +31,18 @@ use Rattle.walk.proofs.Lengths.{two-moves}
 use Rattle.sheet.proofs.Products.{product-most}
 use Rattle.sheet.specs.declared.Built.{Built}
 use Rattle.sheet.specs.declared.Built.the-variants as Built
-use Rattle.sheet.specs.Buffers.{Buffers, flat, shown}
-use Rattle.sheet.specs.InnerSteps.{Ready, Drawable, Finished, finished, builtOf}
+use Rattle.sheet.specs.Buffers.{Buffers, buffers, flat, laidIn, shown}
+use Rattle.sheet.specs.InnerSteps.{held, fitting, showing, Ready, Drawable, Finished, finished, builtOf}
+use Rattle.sheet.proofs.Lent.{held-made, held-shown}
+use Rattle.moves.specs.Origins.{originsIn}
+use Rattle.moves.proofs.Origins.{origins-length}
 use Rattle.job.specs.declared.RawOffsetAnswer.{RawOffsetAnswer}
 use Rattle.job.specs.declared.RawOffsetAnswer.the-variants.{Done, Refused}
 use Rattle.job.specs.Verdict.{Verdict, refused, drawn, roomFor, finiteVerdict, distinctVerdict, roomyVerdict}
 use Rattle.job.specs.Job.{Outcome, ending, afterRefusal, placed, hasRoom, jobOf}
-use Rattle.job.specs.Rows.{Job, Numbers}
+use Rattle.job.specs.Rows.{Job, places, Numbers}
 use Rattle.job.specs.InnerSteps.{movesIf, Counted, fromRoom}
-use Rattle.job.proofs.Ways.{found, not-found, unchanged, all-fit, ragged, many, bad, few, in-threes, two-way, ends}
+use Rattle.job.proofs.Ways.{found, not-found, unchanged, all-fit, ragged, many, bad, few, counted, two-way, job-placed, ends}
 
 -- ---- the moves of a segment by the mode, and the room, which is small
 
@@ -57,79 +61,98 @@ few-places closed v pointed {m} {n} k p h =
 
 -- ---- the first three tests
 
--- nothing in no room is what stood there
-nothing-shown : (old : Buffers) → shown 0 nothing old ≡ old
-unfolding shown flat
-nothing-shown old = refl
+-- what the test of whole vertices, and the count of them, say
+module _ (c : Bool) (xs ys bs : List Float) where
+  pub told-ragged : {r : Bool} → r ≡ wholeBy c (length xs) (length ys) (length bs) → not r ≡ true → Whole (lentBy c xs ys bs) → ⊥
+  told-ragged e n w = true≢false (sym (whole-passes (lentBy c xs ys bs) w) ∙ whole-is c xs ys bs ∙ sym e ∙ not-true _ n)
 
-module _ (s : List Float) (closed : Bool) (σ : Settings) (old : Buffers) where
+  pub told-whole : {r : Bool} → r ≡ wholeBy c (length xs) (length ys) (length bs) → not r ≡ false → Whole (lentBy c xs ys bs)
+  told-whole e n = whole-told (lentBy c xs ys bs) (whole-is c xs ys bs ∙ sym e ∙ not-false _ n)
+
+  pub told-count : {v : ℕ} → v ≡ countBy c (length xs) (length ys) (length bs) → v ≡ length (verticesIn (lentBy c xs ys bs))
+  told-count e = e ∙ sym (count-is c xs ys bs)
+
+-- nothing in no room is what stood there
+nothing-laid : (l : Lent) → laidIn 0 [] l ≡ l
+unfolding flat
+nothing-laid (rows ns) = refl
+nothing-laid (columns xs ys bs) = refl
+
+nothing-shown : (old : Buffers) → shown 0 nothing old ≡ old
+unfolding shown
+nothing-shown old = rw (nothing-laid (old .vertices))
+
+module _ (s : Lent) (closed : Bool) (σ : Settings) (old : Buffers) where
   abbrev job : Job
   job = record { source = s; closed = closed; settings = σ; buffers = old }
 
-  pub ragged-ends : (length s % 3 ≡ 0 → ⊥) → ending (Refused Ragged) old ≡ jobOf s closed σ old
+  pub ragged-ends : (Whole s → ⊥) → ending (Refused Ragged) old ≡ jobOf s closed σ old
   ragged-ends h = unchanged Ragged _ old (λ e. omega arith) ∙ ends job (ragged h)
 
-  pub many-ends : length s % 3 ≡ 0 → 4096 < length s / 3 → ending (Refused TooMany) old ≡ jobOf s closed σ old
-  many-ends h m = unchanged TooMany _ old (λ e. omega arith) ∙ ends job (many (record { threes = h; many = m }))
+  module _ (h : Whole s) where
+    pub many-ends : 4096 < length (verticesIn s) → ending (Refused TooMany) old ≡ jobOf s closed σ old
+    many-ends m = unchanged TooMany _ old (λ e. omega arith) ∙ ends job (many (record { whole = h; many = m }))
 
-  module _ (h : length s % 3 ≡ 0) (most : length s / 3 ≤ 4096) where
-    pub bad-ends : (k : ℕ) → firstOf (numberTests (verticesOf s) σ) ≡ At k → ending (Refused (BadNumber k)) old ≡ jobOf s closed σ old
-    bad-ends k e =
-        unchanged (BadNumber k) _ old (λ e. omega arith) ∙ ends job (bad k (record { whole = record { threes = h; few = most }; bad = number-row _ _ k .0 e }))
+    module _ (most : length (verticesIn s) ≤ 4096) where
+      pub bad-ends : (k : ℕ) → firstOf (numberTests (verticesIn s) σ) ≡ At k → ending (Refused (BadNumber k)) old ≡ jobOf s closed σ old
+      bad-ends k e =
+          unchanged (BadNumber k) _ old (λ e. omega arith) ∙ ends job (bad k (record { countable = record { whole = h; few = most }; bad = number-row _ _ k .0 e }))
 
-    good : firstOf (numberTests (verticesOf s) σ) ≡ Nowhere → Numbers job
-    good e = record { whole = record { threes = h; few = most }; good = number-nowhere _ _ .0 e }
+      good : firstOf (numberTests (verticesIn s) σ) ≡ Nowhere → Numbers job
+      good e = record { countable = record { whole = h; few = most }; good = number-nowhere _ _ .0 e }
 
-    pub few-ends : firstOf (numberTests (verticesOf s) σ) ≡ Nowhere → length s / 3 < 2 → ending (Done emptyResult) old ≡ jobOf s closed σ old
-    few-ends e t =
-        let z : movesASegment (σ .corners) * 0 ≡ 0 = omega arith in
-        ap (ending (Done emptyResult)) (sym (rw (segments-none closed (length s / 3) t, z) (nothing-shown old))) ∙ ends job (few (good e) t)
+      pub few-ends : firstOf (numberTests (verticesIn s) σ) ≡ Nowhere → length (verticesIn s) < 2 → ending (Done emptyResult) old ≡ jobOf s closed σ old
+      few-ends e t =
+          let z : movesASegment (σ .corners) * 0 ≡ 0 = omega arith in
+          ap (ending (Done emptyResult)) (sym (rw (segments-none closed (length (verticesIn s)) t, z) (nothing-shown old))) ∙ ends job (few (good e) t)
 
-    pub good-ends : firstOf (numberTests (verticesOf s) σ) ≡ Nowhere → 2 ≤ length s / 3 → {o : Outcome}
-        → o ≡ fromRoom (length s / 3) s closed σ old → o ≡ jobOf s closed σ old
-    unfolding roomFor
-    good-ends e t q = q ∙ rw (length-vertices s) at (in-threes job h (two-way job (good e) t refl))
+      pub good-ends : firstOf (numberTests (verticesIn s) σ) ≡ Nowhere → 2 ≤ length (verticesIn s) → {o : Outcome} → o ≡ fromRoom (verticesIn s) closed σ old → o ≡ jobOf s closed σ old
+      unfolding roomFor
+      good-ends e t q = q ∙ ap (λ (v : Verdict). placed (places job) v old) (counted job h (two-way job (good e) t refl)) ∙ job-placed job
 
--- ---- from No. 4 on. The code has the mode, n segments, m moves a segment, and the answer t of its test of the room.
+-- ---- from No. 4 on. The code has the mode, n segments, m moves a segment, how many vertices fit, and the answer t of its test of the room.
 
-module _ (s : List Float) (closed : Bool) (v : ℕ) (old : Buffers) (σ : Settings) (pointed : Bool) (mode : pointed ≡ arePointed (σ .corners)) (m n : ℕ) (t : Bool)
-    (moves : m ≡ movesIf pointed) (h : n ≡ segmentsOf closed v) {o : ℕ} (k : length (old .origins) ≡ o)
-    (r : t ≡ (leb (m * n) (length (old .vertices) / 3) and (leb (m * n) (length (old .flags)) and (leb (m * n) (length (old .indexes)) and leb (m * n) o)))) where
+module _ (s : List PlineVertex) (closed : Bool) (c : Bool) (xs ys bs : List Float) (f i o : List ℕ) (σ : Settings) (pointed : Bool) (mode : pointed ≡ arePointed (σ .corners)) (v m n fit : ℕ) (t : Bool)
+    (counts : Counted v s) (moves : m ≡ movesIf pointed) (h : n ≡ segmentsOf closed v) (k : fit ≡ length (verticesIn (lentBy c xs ys bs)))
+    (r : t ≡ (leb (m * n) fit and (leb (m * n) (length f) and (leb (m * n) (length i) and leb (m * n) (length o))))) where
+  abbrev old : Buffers
+  old = buffers (lentBy c xs ys bs) f i (originsIn o)
+
   abbrev room : ℕ
-  room = roomFor (σ .corners) closed v
+  room = roomFor (σ .corners) closed (length s)
 
   pub room-is : m * n ≡ room
   unfolding roomFor
-  room-is = rw (moves, mode, h, moves-if (σ .corners))
+  room-is = rw (moves, mode, h, counts .long, moves-if (σ .corners))
 
   abbrev fits : Bool
   fits = hasRoom old room
 
   tested : t ≡ fits
   unfolding hasRoom
-  tested = r ∙ rw (room-is, k)
+  tested = r ∙ rw (room-is, k, origins-length o)
 
-  pub drawable : Counted v s → not t ≡ false → Drawable v (segmentsOf closed v) (m * n) σ pointed s old
-  drawable c f =
-      let fit = all-fit (m * n) (length (old .vertices) / 3) (length (old .flags)) (length (old .indexes)) o (sym r ∙ not-false t f) in
+  pub drawable : not t ≡ false → Drawable v (segmentsOf closed v) (m * n) σ pointed s (held c xs ys bs f i o)
+  drawable e =
+      let fit = all-fit (m * n) fit (length f) (length i) (length o) (sym r ∙ not-false t e) in
       record {
         ready = record {
-          long = c .long;
-          two = c .two;
-          most = c .most;
-          vertices = omega (arith, fit .0);
-          flags = omega (arith, fit .1);
-          indexes = omega (arith, fit .2);
-          origins = omega (arith, fit .3);
+          long = counts .long;
+          two = counts .two;
+          most = counts .most;
+          vertices = rw (held-made c xs ys bs, ← k) (fit .0);
+          flags = fit .1;
+          indexes = fit .2;
+          origins = rw (origins-length o) (fit .3);
         };
         told = mode;
-        enough = let e = room-is in unfold roomFor in omega (arith, e);
-        small = few-places closed v pointed (c .most) moves h;
+        enough = let e = room-is in rw (counts .long) (unfold roomFor in omega (arith, e));
+        small = few-places closed v pointed (counts .most) moves h;
       }
 
-  pub copyable : Counted v s → not t ≡ false → Ready v (m * n) s old × (2 * segmentsOf closed v ≤ m * n) × (m * n ≤ 12288)
-  copyable c f =
-      let d = drawable c f in
+  pub copyable : not t ≡ false → Ready v (m * n) s (held c xs ys bs f i o) × (2 * segmentsOf closed v ≤ m * n) × (m * n ≤ 12288)
+  copyable e =
+      let d = drawable e in
       (d .ready, omega (arith, d .enough, product-most 2 (movesASegment (σ .corners)) (segmentsOf closed v) (two-moves (σ .corners))), d .small)
 
   -- what is placed
@@ -137,20 +160,22 @@ module _ (s : List Float) (closed : Bool) (v : ℕ) (old : Buffers) (σ : Settin
   judged x = placed room x old
 
   abbrev verdict : Verdict
-  verdict = roomyVerdict fits closed σ (verticesOf s)
+  verdict = roomyVerdict fits closed σ s
 
   pub no-room : not t ≡ true → ending (Refused NoRoom) old ≡ judged verdict
   unfolding roomyVerdict
-  no-room f = unchanged NoRoom _ old (λ e. omega arith) ∙ ap judged (yes _ _ _ (ap not (sym tested) ∙ f) refl)
+  no-room e = unchanged NoRoom _ old (λ z. omega arith) ∙ ap judged (yes _ _ _ (ap not (sym tested) ∙ e) refl)
 
-  pub zero-offset : not t ≡ false → eq (σ .offset) zero ≡ true → {a : RawOffsetResult} {b : Buffers} → a ≡ resultOf (copied closed (verticesOf s))
-      → b ≡ shown (m * n) (copied closed (verticesOf s)) old → ending (Done a) b ≡ judged verdict
+  pub zero-offset : not t ≡ false → eq (σ .offset) zero ≡ true → {a : RawOffsetResult} (xs′ ys′ bs′ : List Float) (f′ i′ o′ : List ℕ) → a ≡ resultOf (copied closed s)
+      → held c xs′ ys′ bs′ f′ i′ o′ ≡ showing (m * n) (copied closed s) (held c xs ys bs f i o) → ending (Done a) (buffers (lentBy c xs′ ys′ bs′) f′ i′ (originsIn o′)) ≡ judged verdict
   unfolding roomyVerdict
-  zero-offset f e p q = rw (p, q, room-is) (ap judged (no _ _ _ (ap not (sym tested) ∙ f) (yes _ _ _ e refl)))
+  zero-offset e z xs′ ys′ bs′ f′ i′ o′ p q =
+      let b = held-shown c xs ys bs xs′ ys′ bs′ f i o f′ i′ o′ (m * n) (copied closed s) (drawable e .ready .vertices) q in
+      rw (p, b, room-is) (ap judged (no _ _ _ (ap not (sym tested) ∙ e) (yes _ _ _ z refl)))
 
-  pub nonzero-offset : not t ≡ false → eq (σ .offset) zero ≡ false → {o : Outcome} → o ≡ placed (m * n) (distinctVerdict closed σ (verticesOf s)) old → o ≡ judged verdict
+  pub nonzero-offset : not t ≡ false → eq (σ .offset) zero ≡ false → {x : Outcome} → x ≡ placed (m * n) (distinctVerdict closed σ s) old → x ≡ judged verdict
   unfolding roomyVerdict
-  nonzero-offset f e q = q ∙ rw room-is (ap judged (no _ _ _ (ap not (sym tested) ∙ f) (no _ _ _ e refl)))
+  nonzero-offset e z q = q ∙ rw room-is (ap judged (no _ _ _ (ap not (sym tested) ∙ e) (no _ _ _ z refl)))
 
 -- ---- from No. 5 on
 
@@ -159,21 +184,28 @@ abbrev pub answered : Built → RawOffsetAnswer
 answered (Built.Done r) = Done r
 answered Built.NotFinite = Refused NotFinite
 
-built-ends : (room : ℕ) (d : Drawing) (old : Buffers) {x : Built} {b : Buffers} → finished x b ≡ builtOf room d old → ending (answered x) b ≡ placed room (finiteVerdict d) old
-unfolding builtOf finiteVerdict afterRefusal when_give_else_
-built-ends room d old h = ap (λ (f : Finished). ending (answered (f .built)) (f .buffers)) h ∙ by (allFinite (d .vertices))
-  where
-    by : (t : Bool) → let f : Finished = when t give finished (Built.Done (resultOf d)) (shown room d old) else finished Built.NotFinite (shown room nothing old) in
-        ending (answered (f .built)) (f .buffers) ≡ placed room (when t give drawn d else refused NotFinite) old
-    by true = refl
-    by false = refl
+module _ (c : Bool) (xs ys bs xs′ ys′ bs′ : List Float) (f i o f′ i′ o′ : List ℕ) (room : ℕ) (fits : room ≤ fitting (held c xs ys bs f i o)) where
+  abbrev lent : Buffers
+  lent = buffers (lentBy c xs ys bs) f i (originsIn o)
 
-module _ (closed : Bool) (σ : Settings) (vs : List PlineVertex) (room : ℕ) (old : Buffers) where
-  pub repeated-ends : (k : ℕ) → firstOf (repeatTests closed vs) ≡ At k → ending (Refused (Repeated k)) old ≡ placed room (distinctVerdict closed σ vs) old
-  unfolding distinctVerdict
-  repeated-ends k e = unchanged (Repeated k) _ old (λ e. omega arith) ∙ ap (λ x. placed room x old) (found _ k _ _ e)
+  built-ends : (d : Drawing) {x : Built} → finished x (held c xs′ ys′ bs′ f′ i′ o′) ≡ builtOf room d (held c xs ys bs f i o)
+      → ending (answered x) (buffers (lentBy c xs′ ys′ bs′) f′ i′ (originsIn o′)) ≡ placed room (finiteVerdict d) lent
+  unfolding builtOf finiteVerdict afterRefusal when_give_else_
+  built-ends d {x} h = by (allFinite (d .vertices)) h
+    where
+      by : (t : Bool) → finished x (held c xs′ ys′ bs′ f′ i′ o′)
+          ≡ when t give finished (Built.Done (resultOf d)) (showing room d (held c xs ys bs f i o)) else finished Built.NotFinite (showing room nothing (held c xs ys bs f i o))
+          → ending (answered x) (buffers (lentBy c xs′ ys′ bs′) f′ i′ (originsIn o′)) ≡ placed room (when t give drawn d else refused NotFinite) lent
+      by true e = rw (ap (λ (y : Finished). y .built) e, held-shown c xs ys bs xs′ ys′ bs′ f i o f′ i′ o′ room d fits (ap (λ (y : Finished). y .buffers) e))
+      by false e = rw (ap (λ (y : Finished). y .built) e, held-shown c xs ys bs xs′ ys′ bs′ f i o f′ i′ o′ room nothing fits (ap (λ (y : Finished). y .buffers) e))
 
-  pub drawn-ends : firstOf (repeatTests closed vs) ≡ Nowhere → {x : Built} {b : Buffers} → finished x b ≡ builtOf room (drawingOf closed σ vs) old
-      → ending (answered x) b ≡ placed room (distinctVerdict closed σ vs) old
-  unfolding distinctVerdict
-  drawn-ends e h = built-ends room (drawingOf closed σ vs) old h ∙ ap (λ x. placed room x old) (not-found _ _ _ e refl)
+  module _ (closed : Bool) (σ : Settings) (vs : List PlineVertex) where
+    pub drawn-ends : firstOf (repeatTests closed vs) ≡ Nowhere → {x : Built} → finished x (held c xs′ ys′ bs′ f′ i′ o′) ≡ builtOf room (drawingOf closed σ vs) (held c xs ys bs f i o)
+        → ending (answered x) (buffers (lentBy c xs′ ys′ bs′) f′ i′ (originsIn o′)) ≡ placed room (distinctVerdict closed σ vs) lent
+    unfolding distinctVerdict
+    drawn-ends e h = built-ends (drawingOf closed σ vs) h ∙ ap (λ x. placed room x lent) (not-found _ _ _ e refl)
+
+pub repeated-ends : (closed : Bool) (σ : Settings) (vs : List PlineVertex) (room : ℕ) (old : Buffers) (k : ℕ) → firstOf (repeatTests closed vs) ≡ At k
+    → ending (Refused (Repeated k)) old ≡ placed room (distinctVerdict closed σ vs) old
+unfolding distinctVerdict
+repeated-ends closed σ vs room old k e = unchanged (Repeated k) _ old (λ e. omega arith) ∙ ap (λ x. placed room x old) (found _ k _ _ e)

@@ -1,8 +1,7 @@
 -- No answer has more vertices than the room asked for. Assumes nothing.
 use Prim.Native.Nat.{_≤_}
 use native.Mathlib.Omega.{arith}
-use Rattle.source.specs.Source.{verticesOf, segmentsOf}
-use Rattle.source.proofs.Source.{length-vertices}
+use Rattle.source.specs.Source.{verticesIn, segmentsOf}
 use Rattle.walk.specs.Walk.{movesASegment, copied}
 use Rattle.walk.proofs.Lengths.{two-moves, drawing-fits}
 use Rattle.sheet.proofs.Products.{product-most}
@@ -21,10 +20,10 @@ fits j (tight r) = omega arith
 fits j (copy r z) =
     let room = source-room (j .closed) (count j) (r .two) in
     let more = product-most 2 (movesASegment (j .settings .corners)) (segmentsOf (j .closed) (count j)) (two-moves (j .settings .corners)) in
-    rw (length-vertices (j .source)) (omega (arith, room, more))
+    omega (arith, room, more)
 fits j (repeated k r) = omega arith
 fits j (endless r) = omega arith
-fits j (whole d f) = rw (← length-vertices (j .source)) (drawing-fits (j .closed) (j .settings) (verticesOf (j .source)) .vertices)
+fits j (whole d f) = drawing-fits (j .closed) (j .settings) (verticesIn (j .source)) .vertices
 
 pub vertices-fit : (j : Job) → result (outcome j .answer) .vertices ≤ places j
 vertices-fit j = rw (ends j (way j)) at (fits j (way j))

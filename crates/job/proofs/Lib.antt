@@ -1,5 +1,6 @@
 pub mod Endless
 pub mod Ways
+pub mod Layouts
 pub mod Demand1
 pub mod Unique
 pub mod Went

@@ -27,7 +27,7 @@ use Rattle.moves.specs.declared.Origin.{Origin}
 use Rattle.moves.specs.declared.Origin.the-variants.{Span, Connector}
 use Rattle.moves.specs.Drawing.{corners, flagsOf, marks, drawnOpen, drawnClosed, finiteVertex, allFinite, originsOf}
 use Rattle.sheet.specs.Buffers.{Buffers, buffers, flat, shown}
-use Rattle.source.specs.Source.{verticesOf, segmentsOf, around}
+use Rattle.source.specs.Source.{verticesOf, rows as lent, segmentsOf, around}
 use Rattle.refusals.specs.Limits.{inside, goodVertex, goodOffset, goodEps, numberTests, repeats, neighbourTests, repeatTests, firstFrom}
 use Rattle.walk.specs.Walk.{joinAt, walk, openLast, closedLast, lastVertex, closingJoin, walkStart, walkMoves, walkDrawing, loneCollapsed, drawingOf}
 use Rattle.job.specs.declared.RawOffsetAnswer.the-variants.{Done}
@@ -103,7 +103,7 @@ link i = Connector (record { 0 = i })
 
 -- what stands in the buffers before: 7, 9 and the connector of segment 9, in its room and one place more
 abbrev pub before : Row → Buffers
-before r = buffers (replicate (3 * r .places + 3) (ofBits binary64 0x401c_0000_0000_0000)) (replicate (r .places + 1) 9) (replicate (r .places + 1) 9) (replicate (r .places + 1) (link 9))
+before r = buffers (lent (replicate (3 * r .places + 3) (ofBits binary64 0x401c_0000_0000_0000))) (replicate (r .places + 1) 9) (replicate (r .places + 1) 9) (replicate (r .places + 1) (link 9))
 
 -- and after: xs, zeros in the places up to n that are left, and the others as before
 abbrev pub filled : {A : Type 0} → A → ℕ → List A → List A → List A
@@ -112,11 +112,11 @@ filled z n xs others = xs ++ replicate (n - length xs) z ++ others
 abbrev pub after : Row → Buffers
 after r =
     let seven : Float = ofBits binary64 0x401c_0000_0000_0000 in
-    buffers (filled zero (3 * r .places) (r .vertices) (seven ∷ seven ∷ seven ∷ [])) (filled 0 (r .places) (r .flags) (9 ∷ [])) (filled 0 (r .places) (r .indexes) (9 ∷ []))
+    buffers (lent (filled zero (3 * r .places) (r .vertices) (seven ∷ seven ∷ seven ∷ []))) (filled 0 (r .places) (r .flags) (9 ∷ [])) (filled 0 (r .places) (r .indexes) (9 ∷ []))
     (filled (span 0) (r .places) (r .origins) (link 9 ∷ []))
 
 abbrev pub worked : Row → Outcome
-worked r = jobOf (r .source) (r .closed) (r .settings) (before r)
+worked r = jobOf (lent (r .source)) (r .closed) (r .settings) (before r)
 
 abbrev pub written : Row → Outcome
 written r = record { answer = Done (record { vertices = length (r .vertices) / 3; indexes = length (r .indexes); closed = r .mark }); buffers = after r }

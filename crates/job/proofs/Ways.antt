@@ -2,11 +2,11 @@
 use mathlib.Core.Path.{_≡_, refl, sym, ap, _∙_, subst}
 use mathlib.Core.Logic.{inl, inr, ⊎-elim}
 use mathlib.Core.List.{List}
-use mathlib.Core.Bool.{Bool, true, false, not}
-use Prim.Native.Nat.{ℕ, _/_, _%_, _≤_, _<_}
+use mathlib.Core.Bool.{Bool, true, false, not, true≢false}
+use Prim.Native.Nat.{ℕ, _≤_, _<_}
 use native.Mathlib.Omega.{arith}
-use borrow.Author.Tests.{ltb-true, ltb-false, leb-true, leb-false, eqb-true, eqb-false, lt-ltb, le-ltb, le-leb, lt-leb, eq-eqb, ne-eqb}
-use lib.Dec.{T, ltb, leb, eqb}
+use borrow.Author.Tests.{ltb-true, ltb-false, leb-true, leb-false, lt-ltb, le-ltb, le-leb, lt-leb, ne-eqb}
+use lib.Dec.{T, ltb, leb}
 use lib.ListN.{length}
 use lib.Ieee.{eq}
 use Rattle.floats.specs.Binary64.{zero}
@@ -14,8 +14,8 @@ use Rattle.floats.specs.Choice.{when_give_else_, _and_}
 use Rattle.floats.proofs.Choice.{yes, no, either-fails, both-pass}
 use Rattle.floats.proofs.Order.{fails}
 use Rattle.segments.specs.declared.PlineVertex.{PlineVertex}
-use Rattle.source.specs.Source.{verticesOf}
-use Rattle.source.proofs.Source.{length-vertices}
+use Rattle.source.specs.Source.{verticesIn, Whole, isWhole}
+use Rattle.source.proofs.Source.{whole-told, whole-passes}
 use Rattle.refusals.specs.declared.Refusal.{Refusal}
 use Rattle.refusals.specs.declared.Refusal.the-variants.{Ragged, TooMany, BadNumber, NoRoom, Repeated, NotFinite}
 use Rattle.refusals.specs.declared.Place.{Place}
@@ -32,7 +32,7 @@ use Rattle.walk.specs.Walk.{drawingOf, copied}
 use Rattle.job.specs.Verdict.{Verdict, refused, drawn, refuse_at_else_, roomFor, finiteVerdict, distinctVerdict, roomyVerdict, verdictOf}
 use Rattle.job.specs.declared.RawOffsetAnswer.the-variants.{Refused}
 use Rattle.job.specs.Job.{Outcome, ending, afterRefusal, placed, hasRoom, jobOf}
-use Rattle.job.specs.Rows.{Job, outcome, count, places, Whole, Numbers, Roomy, Distinct, Row1, Row2, Row3, Short, vertices, flags, indexes, origins, Row4, Row5, Row6}
+use Rattle.job.specs.Rows.{Job, outcome, count, fit, places, Countable, Numbers, Roomy, Distinct, Row1, Row2, Row3, Short, vertices, flags, indexes, origins, Row4, Row5, Row6}
 use Rattle.job.proofs.Endless.{fails→holds, holds→fails}
 
 -- ---- a search that found a place, and one that did not
@@ -67,7 +67,7 @@ all-fit r a b c d e =
 
 module _ (j : Job) where
   abbrev pub points : List PlineVertex
-  points = verticesOf (j .source)
+  points = verticesIn (j .source)
 
   abbrev pub drawing : Drawing
   drawing = drawingOf (j .closed) (j .settings) points
@@ -78,7 +78,7 @@ module _ (j : Job) where
 
   pub room-is : roomFor (j .settings .corners) (j .closed) (length points) ≡ places j
   unfolding roomFor
-  room-is = rw (length-vertices (j .source))
+  room-is = refl
 
   has-room : Roomy j → fits ≡ true
   unfolding hasRoom
@@ -87,7 +87,7 @@ module _ (j : Job) where
   roomy : Numbers j → 2 ≤ count j → fits ≡ true → Roomy j
   unfolding hasRoom
   roomy n t e =
-      let f = all-fit (places j) (length (j .buffers .vertices) / 3) (length (j .buffers .flags)) (length (j .buffers .indexes)) (length (j .buffers .origins)) (rw room-is at e) in
+      let f = all-fit (places j) (fit j) (length (j .buffers .flags)) (length (j .buffers .indexes)) (length (j .buffers .origins)) (rw room-is at e) in
       record { numbers = n; two = t; vertices = f .0; flags = f .1; indexes = f .2; origins = f .3 }
 
   no-room : Short j → fits ≡ false
@@ -108,24 +108,24 @@ module _ (j : Job) where
       (λ p.
       ⊎-elim (λ q. flags (leb-false _ _ q)) (λ q. ⊎-elim (λ s. indexes (leb-false _ _ s)) (λ s. origins (leb-false _ _ s)) (either-fails (leb n i) (leb n o) .0 q))
       (either-fails (leb n f) (leb n i and leb n o) .0 p))
-      (either-fails (leb n (length (j .buffers .vertices) / 3)) (leb n f and (leb n i and leb n o)) .0 (rw room-is at e))
+      (either-fails (leb n (fit j)) (leb n f and (leb n i and leb n o)) .0 (rw room-is at e))
 
   -- ---- what the verdict is once the first tests are passed
 
   abbrev verdict : Verdict
   verdict = verdictOf (hasRoom (j .buffers)) (j .closed) (j .settings) points
 
-  whole-way : Whole j → {v : Verdict}
+  whole-way : Countable j → {v : Verdict}
       → v ≡ refuse BadNumber at firstOf (numberTests points (j .settings)) else when ltb (length points) 2 give drawn nothing else roomyVerdict fits (j .closed) (j .settings) points
       → v ≡ verdict
   unfolding verdictOf
-  whole-way w q = no _ _ _ (le-ltb 4096 (length points) (rw (length-vertices (j .source)) (w .few))) q
+  whole-way w q = no _ _ _ (le-ltb 4096 (length points) (w .few)) q
 
   numbers-way : Numbers j → {v : Verdict} → v ≡ when ltb (length points) 2 give drawn nothing else roomyVerdict fits (j .closed) (j .settings) points → v ≡ verdict
-  numbers-way n q = whole-way (n .whole) (not-found _ _ _ (number-nowhere _ _ .1 (n .good)) q)
+  numbers-way n q = whole-way (n .countable) (not-found _ _ _ (number-nowhere _ _ .1 (n .good)) q)
 
   pub two-way : Numbers j → 2 ≤ count j → {v : Verdict} → v ≡ roomyVerdict fits (j .closed) (j .settings) points → v ≡ verdict
-  two-way n t q = numbers-way n (no _ _ _ (le-ltb (length points) 2 (rw (length-vertices (j .source)) t)) q)
+  two-way n t q = numbers-way n (no _ _ _ (le-ltb (length points) 2 t) q)
 
   roomy-way : Roomy j → {v : Verdict} → v ≡ when eq (j .settings .offset) zero give drawn (copied (j .closed) points) else distinctVerdict (j .closed) (j .settings) points → v ≡ verdict
   roomy-way w q = two-way (w .numbers) (w .two) (unfold roomyVerdict in no _ _ _ (ap not (has-room w)) q)
@@ -164,23 +164,40 @@ module _ (j : Job) where
   abbrev pub leadsTo : Way → Outcome
   leadsTo w = placed (places j) (reached w) (j .buffers)
 
-  pub in-threes : length (j .source) % 3 ≡ 0 → {v : Verdict} → v ≡ verdict → placed (places j) v (j .buffers) ≡ outcome j
-  unfolding jobOf
-  in-threes h q = no _ _ _ (ap not (eq-eqb _ _ h)) (rw (room-is, q))
+  -- the verdict with No. 1 before it
+  abbrev pub judgement : Verdict
+  judgement = when not (isWhole (j .source)) give refused Ragged else verdict
+
+  ragged-fails : Row1 j → isWhole (j .source) ≡ false
+  ragged-fails r = by-test (isWhole (j .source)) (λ (e : isWhole (j .source) ≡ true). absurd (r (whole-told (j .source) e))) (λ (e : isWhole (j .source) ≡ false). e)
+
+  pub counted : Whole (j .source) → {v : Verdict} → v ≡ verdict → v ≡ judgement
+  counted h q = no _ _ _ (ap not (whole-passes (j .source) h)) q
+
+  pub judged : (w : Way) → reached w ≡ judgement
+  judged (ragged r) = yes _ _ _ (not-fails _ .1 (ragged-fails r)) refl
+  judged (many r) = counted (r .whole) {v = refused TooMany} (unfold verdictOf in yes _ _ _ (lt-ltb 4096 (length points) (r .many)) refl)
+  judged (bad k r) = counted (r .countable .whole) (whole-way (r .countable) (found _ k _ _ (number-row _ _ k .1 (r .bad))))
+  judged (few n h) = counted (n .countable .whole) (numbers-way n (yes _ _ _ (lt-ltb (length points) 2 h) refl))
+  judged (tight r) = counted (r .numbers .countable .whole) {v = refused NoRoom} (two-way (r .numbers) (r .two) (unfold roomyVerdict in yes _ _ _ (not-fails _ .1 (no-room (r .short))) refl))
+  judged (copy r z) = counted (r .numbers .countable .whole) (roomy-way r (yes _ _ _ (passes _ .1 z) refl))
+  judged (repeated k r) = counted (r .roomy .numbers .countable .whole) (nonzero-way (r .roomy) (r .nonzero) (found _ k _ _ (repeated-row _ _ k .1 (r .repeated))))
+  judged (endless r) = counted (r .distinct .roomy .numbers .countable .whole) {v = refused NotFinite} (distinct-way (r .distinct) (unfold finiteVerdict in no _ _ _ (holds→fails _ (r .held) (r .endless)) refl))
+  judged (whole d f) = counted (d .roomy .numbers .countable .whole) {v = drawn drawing} (distinct-way d (unfold finiteVerdict in yes _ _ _ f refl))
 
   nowhere : placed (places j) (refused Ragged) (j .buffers) ≡ placed 0 (refused Ragged) (j .buffers)
   nowhere = sym (unchanged Ragged (places j) (j .buffers) (λ h. omega arith)) ∙ unchanged Ragged 0 (j .buffers) (λ h. omega arith)
 
+  pub job-placed : placed (places j) judgement (j .buffers) ≡ outcome j
+  unfolding jobOf roomFor
+  job-placed = by (isWhole (j .source))
+    where
+      by : (t : Bool) → placed (places j) (when not t give refused Ragged else verdict) (j .buffers) ≡ when not t give placed 0 (refused Ragged) (j .buffers) else placed (places j) verdict (j .buffers)
+      by true = unfold when_give_else_ in refl
+      by false = unfold when_give_else_ in nowhere
+
   pub ends : (w : Way) → leadsTo w ≡ outcome j
-  ends (ragged r) = nowhere ∙ (unfold jobOf in yes _ _ _ (not-fails _ .1 (ne-eqb _ _ r)) refl)
-  ends (many r) = in-threes (r .threes) {v = refused TooMany} (unfold verdictOf in yes _ _ _ (lt-ltb 4096 (length points) (rw (length-vertices (j .source)) (r .many))) refl)
-  ends (bad k r) = in-threes (r .whole .threes) (whole-way (r .whole) (found _ k _ _ (number-row _ _ k .1 (r .bad))))
-  ends (few n h) = in-threes (n .whole .threes) (numbers-way n (yes _ _ _ (lt-ltb (length points) 2 (rw (length-vertices (j .source)) h)) refl))
-  ends (tight r) = in-threes (r .numbers .whole .threes) {v = refused NoRoom} (two-way (r .numbers) (r .two) (unfold roomyVerdict in yes _ _ _ (not-fails _ .1 (no-room (r .short))) refl))
-  ends (copy r z) = in-threes (r .numbers .whole .threes) (roomy-way r (yes _ _ _ (passes _ .1 z) refl))
-  ends (repeated k r) = in-threes (r .roomy .numbers .whole .threes) (nonzero-way (r .roomy) (r .nonzero) (found _ k _ _ (repeated-row _ _ k .1 (r .repeated))))
-  ends (endless r) = in-threes (r .distinct .roomy .numbers .whole .threes) {v = refused NotFinite} (distinct-way (r .distinct) (unfold finiteVerdict in no _ _ _ (holds→fails _ (r .held) (r .endless)) refl))
-  ends (whole d f) = in-threes (d .roomy .numbers .whole .threes) {v = drawn drawing} (distinct-way d (unfold finiteVerdict in yes _ _ _ f refl))
+  ends w = ap (λ (v : Verdict). placed (places j) v (j .buffers)) (judged w) ∙ job-placed
 
   -- ---- and each job takes one
 
@@ -208,17 +225,17 @@ module _ (j : Job) where
   from-numbers n =
       by-test (ltb (count j) 2) (λ (e : ltb (count j) 2 ≡ true). few n (ltb-true _ _ e)) (λ (e : ltb (count j) 2 ≡ false). from-two n (ltb-false _ _ e))
 
-  from-whole : Whole j → Way
-  from-whole w =
-      by-place (firstOf (numberTests points (j .settings))) (λ k e. bad k (record { whole = w; bad = number-row _ _ k .0 e }))
-      (λ e. from-numbers (record { whole = w; good = number-nowhere _ _ .0 e }))
+  from-countable : Countable j → Way
+  from-countable w =
+      by-place (firstOf (numberTests points (j .settings))) (λ k e. bad k (record { countable = w; bad = number-row _ _ k .0 e }))
+      (λ e. from-numbers (record { countable = w; good = number-nowhere _ _ .0 e }))
 
-  from-threes : length (j .source) % 3 ≡ 0 → Way
-  from-threes h =
-      by-test (ltb 4096 (count j)) (λ (e : ltb 4096 (count j) ≡ true). many (record { threes = h; many = ltb-true _ _ e }))
-      (λ (e : ltb 4096 (count j) ≡ false). from-whole (record { threes = h; few = ltb-false _ _ e }))
+  from-whole : Whole (j .source) → Way
+  from-whole h =
+      by-test (ltb 4096 (count j)) (λ (e : ltb 4096 (count j) ≡ true). many (record { whole = h; many = ltb-true _ _ e }))
+      (λ (e : ltb 4096 (count j) ≡ false). from-countable (record { whole = h; few = ltb-false _ _ e }))
 
   pub way : Way
   way =
-      let t = eqb (length (j .source) % 3) 0 in
-      by-test t (λ (e : t ≡ true). from-threes (eqb-true _ _ e)) (λ (e : t ≡ false). ragged (eqb-false _ _ e))
+      let t = isWhole (j .source) in
+      by-test t (λ (e : t ≡ true). from-whole (whole-told (j .source) e)) (λ (e : t ≡ false). ragged (λ (h : Whole (j .source)). true≢false (sym (whole-passes (j .source) h) ∙ e)))

@@ -14,7 +14,7 @@ use Rattle.vectors.specs.declared.Vector2.{Vector2}
 use Rattle.segments.specs.declared.PlineVertex.{PlineVertex}
 use Rattle.segments.specs.declared.SourceSegment.{SourceSegment}
 use Rattle.segments.specs.Vertex.{posOf}
-use Rattle.source.specs.Source.{verticesOf, around}
+use Rattle.source.specs.Source.{verticesIn, around}
 use Rattle.moves.specs.declared.Move.{Move}
 use Rattle.moves.specs.declared.Origin.the-variants.{Connector}
 use Rattle.moves.specs.Drawing.{Drawing, moveEnd, drawnOpen, drawnClosed, emptyResult, resultOf}
@@ -33,7 +33,7 @@ pub record Walks (j : Job) : Type 0 where
   pub accepted : number (outcome j .answer) ≡ 0
   pub nonzero : T (eq (j .settings .offset) zero) → ⊥
   pub two : 2 ≤ count j
-  pub not-lone : loneCollapsed (j .closed) (j .settings) (verticesOf (j .source)) ≡ false
+  pub not-lone : loneCollapsed (j .closed) (j .settings) (verticesIn (j .source)) ≡ false
 
 -- ---- the words of the claim
 
@@ -46,7 +46,7 @@ pub record WalkOf (j : Job) (p : Vector2) (ms : List Move) : Type 0 where
   pub a : PlineVertex
   pub b : PlineVertex
   pub others : List PlineVertex
-  pub source : verticesOf (j .source) ≡ a ∷ b ∷ others
+  pub source : verticesIn (j .source) ≡ a ∷ b ∷ others
   pub start : p ≡ walkStart (j .closed) (j .settings) a b others
   pub moves : ms ≡ walkMoves (j .closed) (j .settings) a b others
 

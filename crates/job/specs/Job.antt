@@ -1,14 +1,12 @@
--- The whole job in rows (01 §1): the answer, and what the four buffers hold afterwards. A list whose length is no multiple of 3 is refused; of any other the verdict over
--- its vertices is placed in the buffers. Definitions only.
-use Prim.Native.Nat.{ℕ, _/_, _%_}
-use mathlib.Core.List.{List}
+-- The whole job, in rows or in columns (01 §1; 02's 2026-08): the answer, and what the buffers hold afterwards. A source with a number left over is refused; of any other the
+-- verdict over its vertices is placed in the buffers. Definitions only.
+use Prim.Native.Nat.{ℕ}
 use mathlib.Core.Bool.{Bool, not}
 use lib.Dec.{leb, eqb}
 use lib.ListN.{length}
-use lib.Ieee.{Float}
 use Rattle.floats.specs.Choice.{when_give_else_, _and_}
 use Rattle.segments.specs.declared.Settings.{Settings}
-use Rattle.source.specs.Source.{verticesOf}
+use Rattle.source.specs.Source.{Lent, verticesIn, isWhole}
 use Rattle.refusals.specs.declared.Refusal.{Refusal}
 use Rattle.refusals.specs.declared.Refusal.the-variants.{Ragged}
 use Rattle.refusals.specs.Table.{numberOf, placeOf}
@@ -50,12 +48,12 @@ abbrev pub placed : ℕ → Verdict → Buffers → Outcome
 placed room (refused r) old = ending (Refused r) (afterRefusal r room old)
 placed room (drawn d) old = ending (Done (resultOf d)) (shown room d old)
 
--- so many vertices, flags, indexes and origins fit; the vertices that fit are a third of the numbers, rounded down
+-- so many vertices, flags, indexes and origins fit: the vertices by as many as the lent numbers make, in rows a third of them, rounded down, in columns the shortest
 unfoldable pub hasRoom : Buffers → ℕ → Bool
-hasRoom b room = leb room (length (b .vertices) / 3) and (leb room (length (b .flags)) and (leb room (length (b .indexes)) and leb room (length (b .origins))))
+hasRoom b room = leb room (length (verticesIn (b .vertices))) and (leb room (length (b .flags)) and (leb room (length (b .indexes)) and leb room (length (b .origins))))
 
-unfoldable pub jobOf : List Float → Bool → Settings → Buffers → Outcome
+unfoldable pub jobOf : Lent → Bool → Settings → Buffers → Outcome
 jobOf source closed σ old =
-    let vs = verticesOf source in
-    when not (eqb (length source % 3) 0) give placed 0 (refused Ragged) old else
+    let vs = verticesIn source in
+    when not (isWhole source) give placed 0 (refused Ragged) old else
     placed (roomFor (σ .corners) closed (length vs)) (verdictOf (hasRoom old) closed σ vs) old

@@ -1,15 +1,15 @@
 -- The rows of 01 §1's table as propositions over the source and the buffers, each with the rows before it excluded. No search and no test of the code stands in them.
 -- Definitions only.
 use mathlib.Core.Path.{_≡_}
-use mathlib.Core.List.{List, List·Memᴰ}
+use mathlib.Core.List.{List·Memᴰ}
 use mathlib.Core.Bool.{Bool}
-use Prim.Native.Nat.{ℕ, _*_, _/_, _%_, _≤_, _<_}
+use Prim.Native.Nat.{ℕ, _*_, _≤_, _<_}
 use lib.Dec.{T}
 use lib.ListN.{length}
 use lib.Ieee.{Float, nan, inf, eq}
 use Rattle.floats.specs.Binary64.{zero}
 use Rattle.segments.specs.declared.Settings.{Settings}
-use Rattle.source.specs.Source.{verticesOf, segmentsOf}
+use Rattle.source.specs.Source.{Lent, verticesIn, Whole, segmentsOf}
 use Rattle.refusals.specs.Rows.{NumberRow, RepeatedRow}
 use Rattle.sheet.specs.Buffers.{Buffers, flat}
 use Rattle.walk.specs.Walk.{movesASegment, drawingOf}
@@ -17,7 +17,7 @@ use Rattle.job.specs.Job.{Outcome, jobOf, number, place}
 
 -- what comes into a job
 pub record Job : Type 0 where
-  pub source : List Float
+  pub source : Lent
   pub closed : Bool
   pub settings : Settings
   pub buffers : Buffers
@@ -25,9 +25,12 @@ pub record Job : Type 0 where
 abbrev pub outcome : Job → Outcome
 outcome j = jobOf (j .source) (j .closed) (j .settings) (j .buffers)
 
--- how many vertices there are
+-- how many vertices there are, and how many fit
 abbrev pub count : Job → ℕ
-count j = length (j .source) / 3
+count j = length (verticesIn (j .source))
+
+abbrev pub fit : Job → ℕ
+fit j = length (verticesIn (j .buffers .vertices))
 
 -- 2n, or 3n in the pointed mode
 abbrev pub places : Job → ℕ
@@ -41,20 +44,20 @@ pub record Given (j : Job) (n k : ℕ) : Type 0 where
 -- ---- what each refusal needs to have passed
 
 -- Nos. 1 and 2
-pub record Whole (j : Job) : Type 0 where
-  pub threes : length (j .source) % 3 ≡ 0
+pub record Countable (j : Job) : Type 0 where
+  pub whole : Whole (j .source)
   pub few : count j ≤ 4096
 
 -- and No. 3
 pub record Numbers (j : Job) : Type 0 where
-  pub whole : Whole j
-  pub good : (k : ℕ) → NumberRow (verticesOf (j .source)) (j .settings) k → ⊥
+  pub countable : Countable j
+  pub good : (k : ℕ) → NumberRow (verticesIn (j .source)) (j .settings) k → ⊥
 
 -- and No. 4, of two vertices or more
 pub record Roomy (j : Job) : Type 0 where
   pub numbers : Numbers j
   pub two : 2 ≤ count j
-  pub vertices : places j ≤ length (j .buffers .vertices) / 3
+  pub vertices : places j ≤ fit j
   pub flags : places j ≤ length (j .buffers .flags)
   pub indexes : places j ≤ length (j .buffers .indexes)
   pub origins : places j ≤ length (j .buffers .origins)
@@ -63,24 +66,24 @@ pub record Roomy (j : Job) : Type 0 where
 pub record Distinct (j : Job) : Type 0 where
   pub roomy : Roomy j
   pub nonzero : T (eq (j .settings .offset) zero) → ⊥
-  pub distinct : (k : ℕ) → RepeatedRow (verticesOf (j .source)) (j .closed) k → ⊥
+  pub distinct : (k : ℕ) → RepeatedRow (verticesIn (j .source)) (j .closed) k → ⊥
 
 -- ---- the rows
 
 abbrev pub Row1 : Job → Type 0
-Row1 j = length (j .source) % 3 ≡ 0 → ⊥
+Row1 j = Whole (j .source) → ⊥
 
 pub record Row2 (j : Job) : Type 0 where
-  pub threes : length (j .source) % 3 ≡ 0
+  pub whole : Whole (j .source)
   pub many : 4096 < count j
 
 pub record Row3 (j : Job) (k : ℕ) : Type 0 where
-  pub whole : Whole j
-  pub bad : NumberRow (verticesOf (j .source)) (j .settings) k
+  pub countable : Countable j
+  pub bad : NumberRow (verticesIn (j .source)) (j .settings) k
 
 -- fewer than so many vertices, flags, indexes or origins fit
 pub data Short (j : Job) : Type 0 where
-  vertices : length (j .buffers .vertices) / 3 < places j → Short j
+  vertices : fit j < places j → Short j
   flags : length (j .buffers .flags) < places j → Short j
   indexes : length (j .buffers .indexes) < places j → Short j
   origins : length (j .buffers .origins) < places j → Short j
@@ -93,7 +96,7 @@ pub record Row4 (j : Job) : Type 0 where
 pub record Row5 (j : Job) (k : ℕ) : Type 0 where
   pub roomy : Roomy j
   pub nonzero : T (eq (j .settings .offset) zero) → ⊥
-  pub repeated : RepeatedRow (verticesOf (j .source)) (j .closed) k
+  pub repeated : RepeatedRow (verticesIn (j .source)) (j .closed) k
 
 -- a NaN or an infinity
 pub data Endless (x : Float) : Type 0 where
@@ -104,5 +107,5 @@ pub data Endless (x : Float) : Type 0 where
 pub record Row6 (j : Job) : Type 0 where
   pub distinct : Distinct j
   pub x : Float
-  pub held : List·Memᴰ x (flat (drawingOf (j .closed) (j .settings) (verticesOf (j .source)) .vertices))
+  pub held : List·Memᴰ x (flat (drawingOf (j .closed) (j .settings) (verticesIn (j .source)) .vertices))
   pub endless : Endless x

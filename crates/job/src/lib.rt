@@ -1,13 +1,13 @@
 // The raw offset of a drawing: the job, with its refusals.
 ghost use mathlib.Core.Path.{_≡_};
-ghost use Prim.Native.Nat.{_/_};
 ghost use lib.Dec.{leb};
 ghost use Rattle.floats.specs.Choice.{_and_};
 ghost use Rattle.segments.specs.Modes.{arePointed, roundBy, pointedBy};
-ghost use Rattle.source.specs.Source.{verticesOf, segmentsOf};
+ghost use Rattle.source.specs.Source.{rows, columns, verticesIn, segmentsOf};
+ghost use Rattle.source.specs.InnerSteps.{lentBy};
 ghost use Rattle.moves.specs.Origins.{originsIn};
 ghost use Rattle.sheet.specs.Buffers.{buffers};
-ghost use Rattle.sheet.specs.InnerSteps.{Drawable};
+ghost use Rattle.sheet.specs.InnerSteps.{held, Drawable};
 ghost use Rattle.job.specs.Handed.{fiveOf};
 ghost use Rattle.job.specs.Verdict.{distinctVerdict};
 ghost use Rattle.job.specs.Job.{number, place, result, ending, placed, jobOf};
@@ -92,15 +92,22 @@ pub fn create_raw_offset(
     indexes: &mut [u32],
     origins: &mut [u32],
 ) -> RawOffsetAnswer
-    ensures { λ r. ⌜ ending r (buffers (now (vertices .exit)) (now (flags .exit)) (now (indexes .exit)) (originsIn (now (origins .exit))))
-        ≡ jobOf (now (source .entry)) closed (roundBy offset eps) (buffers (now (vertices .entry)) (now (flags .entry)) (now (indexes .entry)) (originsIn (now (origins .entry)))) ⌝ }
+    ensures { λ r. ⌜ ending r (buffers (rows (now (vertices .exit))) (now (flags .exit)) (now (indexes .exit)) (originsIn (now (origins .exit))))
+        ≡ jobOf (rows (now (source .entry))) closed (roundBy offset eps) (buffers (rows (now (vertices .entry))) (now (flags .entry)) (now (indexes .entry)) (originsIn (now (origins .entry)))) ⌝ }
 {
+    let mut noys = [0.0; 0];
+    let mut nobulges = [0.0; 0];
     offset_drawing(
+        false,
+        source,
+        source,
         source,
         closed,
         Settings::round(offset, eps),
         false,
         vertices,
+        &mut noys,
+        &mut nobulges,
         flags,
         indexes,
         origins,
@@ -119,15 +126,93 @@ pub fn create_raw_offset_pointed(
     indexes: &mut [u32],
     origins: &mut [u32],
 ) -> RawOffsetAnswer
-    ensures { λ r. ⌜ ending r (buffers (now (vertices .exit)) (now (flags .exit)) (now (indexes .exit)) (originsIn (now (origins .exit))))
-        ≡ jobOf (now (source .entry)) closed (pointedBy offset eps ratio) (buffers (now (vertices .entry)) (now (flags .entry)) (now (indexes .entry)) (originsIn (now (origins .entry)))) ⌝ }
+    ensures { λ r. ⌜ ending r (buffers (rows (now (vertices .exit))) (now (flags .exit)) (now (indexes .exit)) (originsIn (now (origins .exit))))
+        ≡ jobOf (rows (now (source .entry))) closed (pointedBy offset eps ratio) (buffers (rows (now (vertices .entry))) (now (flags .entry)) (now (indexes .entry)) (originsIn (now (origins .entry)))) ⌝ }
 {
+    let mut noys = [0.0; 0];
+    let mut nobulges = [0.0; 0];
     offset_drawing(
+        false,
+        source,
+        source,
         source,
         closed,
         Settings::pointed(offset, eps, ratio),
         true,
         vertices,
+        &mut noys,
+        &mut nobulges,
+        flags,
+        indexes,
+        origins,
+    )
+}
+
+// The same with three columns for the source and three for the output (2026-08), and round corners.
+pub fn create_raw_offset_columns(
+    xs: &[f64],
+    ys: &[f64],
+    bulges: &[f64],
+    closed: bool,
+    offset: f64,
+    eps: f64,
+    outxs: &mut [f64],
+    outys: &mut [f64],
+    outbulges: &mut [f64],
+    flags: &mut [u8],
+    indexes: &mut [u32],
+    origins: &mut [u32],
+) -> RawOffsetAnswer
+    ensures { λ r. ⌜ ending r (buffers (columns (now (outxs .exit)) (now (outys .exit)) (now (outbulges .exit))) (now (flags .exit)) (now (indexes .exit)) (originsIn (now (origins .exit))))
+        ≡ jobOf (columns (now (xs .entry)) (now (ys .entry)) (now (bulges .entry))) closed (roundBy offset eps) (buffers (columns (now (outxs .entry)) (now (outys .entry)) (now (outbulges .entry))) (now (flags .entry)) (now (indexes .entry)) (originsIn (now (origins .entry)))) ⌝ }
+{
+    offset_drawing(
+        true,
+        xs,
+        ys,
+        bulges,
+        closed,
+        Settings::round(offset, eps),
+        false,
+        outxs,
+        outys,
+        outbulges,
+        flags,
+        indexes,
+        origins,
+    )
+}
+
+// In columns, with pointed corners.
+pub fn create_raw_offset_columns_pointed(
+    xs: &[f64],
+    ys: &[f64],
+    bulges: &[f64],
+    closed: bool,
+    offset: f64,
+    eps: f64,
+    ratio: f64,
+    outxs: &mut [f64],
+    outys: &mut [f64],
+    outbulges: &mut [f64],
+    flags: &mut [u8],
+    indexes: &mut [u32],
+    origins: &mut [u32],
+) -> RawOffsetAnswer
+    ensures { λ r. ⌜ ending r (buffers (columns (now (outxs .exit)) (now (outys .exit)) (now (outbulges .exit))) (now (flags .exit)) (now (indexes .exit)) (originsIn (now (origins .exit))))
+        ≡ jobOf (columns (now (xs .entry)) (now (ys .entry)) (now (bulges .entry))) closed (pointedBy offset eps ratio) (buffers (columns (now (outxs .entry)) (now (outys .entry)) (now (outbulges .entry))) (now (flags .entry)) (now (indexes .entry)) (originsIn (now (origins .entry)))) ⌝ }
+{
+    offset_drawing(
+        true,
+        xs,
+        ys,
+        bulges,
+        closed,
+        Settings::pointed(offset, eps, ratio),
+        true,
+        outxs,
+        outys,
+        outbulges,
         flags,
         indexes,
         origins,
@@ -136,27 +221,32 @@ pub fn create_raw_offset_pointed(
 
 // In either mode, which is told beside the settings (joins::outer_corner).
 fn offset_drawing(
-    source: &[f64],
+    columns: bool,
+    xs: &[f64],
+    ys: &[f64],
+    bulges: &[f64],
     closed: bool,
     settings: Settings,
     pointed: bool,
-    vertices: &mut [f64],
+    outxs: &mut [f64],
+    outys: &mut [f64],
+    outbulges: &mut [f64],
     flags: &mut [u8],
     indexes: &mut [u32],
     origins: &mut [u32],
 ) -> RawOffsetAnswer
     requires { ⌜ pointed ≡ arePointed (settings .corners) ⌝ }
-    ensures { λ r. ⌜ ending r (buffers (now (vertices .exit)) (now (flags .exit)) (now (indexes .exit)) (originsIn (now (origins .exit))))
-        ≡ jobOf (now (source .entry)) closed settings (buffers (now (vertices .entry)) (now (flags .entry)) (now (indexes .entry)) (originsIn (now (origins .entry)))) ⌝ }
+    ensures { λ r. ⌜ ending r (buffers (lentBy columns (now (outxs .exit)) (now (outys .exit)) (now (outbulges .exit))) (now (flags .exit)) (now (indexes .exit)) (originsIn (now (origins .exit))))
+        ≡ jobOf (lentBy columns (now (xs .entry)) (now (ys .entry)) (now (bulges .entry))) closed settings (buffers (lentBy columns (now (outxs .entry)) (now (outys .entry)) (now (outbulges .entry))) (now (flags .entry)) (now (indexes .entry)) (originsIn (now (origins .entry)))) ⌝ }
 {
-    if source.len() % 3 != 0 {
+    if !source::is_whole(columns, xs.len(), ys.len(), bulges.len()) {
         return RawOffsetAnswer::Refused(Refusal::Ragged);
     }
-    let v = source.len() / 3;
+    let v = source::vertex_count(columns, xs.len(), ys.len(), bulges.len());
     if MOST_VERTICES < v {
         return RawOffsetAnswer::Refused(Refusal::TooMany);
     }
-    let bad = refusals::first_bad_number(source, v, settings);
+    let bad = refusals::first_bad_number(columns, xs, ys, bulges, v, settings);
     if let Place::At(k) = bad {
         return RawOffsetAnswer::Refused(Refusal::BadNumber(k));
     }
@@ -164,71 +254,86 @@ fn offset_drawing(
         return RawOffsetAnswer::Done(RawOffsetResult::empty());
     }
     offset_good(
-        source,
+        columns,
+        xs,
+        ys,
+        bulges,
         v,
         closed,
         settings,
         pointed,
-        vertices,
+        outxs,
+        outys,
+        outbulges,
         flags,
         indexes,
         origins,
     )
 }
 
-// A vertex takes three numbers; what is left over holds none.
-fn has_room(room: usize, numbers: usize, flags: usize, indexes: usize, origins: usize) -> bool
-    ensures { λ r. ⌜ r ≡ (leb room (numbers / 3) and (leb room flags and (leb room indexes and leb room origins))) ⌝ }
+fn has_room(room: usize, vertices: usize, flags: usize, indexes: usize, origins: usize) -> bool
+    ensures { λ r. ⌜ r ≡ (leb room vertices and (leb room flags and (leb room indexes and leb room origins))) ⌝ }
 {
-    room <= numbers / 3 && (room <= flags && (room <= indexes && room <= origins))
+    room <= vertices && (room <= flags && (room <= indexes && room <= origins))
 }
 
 // A source of two vertices or more, all of whose numbers are good.
 fn offset_good(
-    source: &[f64],
+    columns: bool,
+    xs: &[f64],
+    ys: &[f64],
+    bulges: &[f64],
     v: usize,
     closed: bool,
     settings: Settings,
     pointed: bool,
-    vertices: &mut [f64],
+    outxs: &mut [f64],
+    outys: &mut [f64],
+    outbulges: &mut [f64],
     flags: &mut [u8],
     indexes: &mut [u32],
     origins: &mut [u32],
 ) -> RawOffsetAnswer
-    requires { ⌜ Counted v (now source) × (pointed ≡ arePointed (settings .corners)) ⌝ }
-    ensures { λ r. ⌜ ending r (buffers (now (vertices .exit)) (now (flags .exit)) (now (indexes .exit)) (originsIn (now (origins .exit))))
-        ≡ fromRoom v (now (source .entry)) closed settings (buffers (now (vertices .entry)) (now (flags .entry)) (now (indexes .entry)) (originsIn (now (origins .entry)))) ⌝ }
+    requires { ⌜ Counted v (verticesIn (lentBy columns (now xs) (now ys) (now bulges))) × (pointed ≡ arePointed (settings .corners)) ⌝ }
+    ensures { λ r. ⌜ ending r (buffers (lentBy columns (now (outxs .exit)) (now (outys .exit)) (now (outbulges .exit))) (now (flags .exit)) (now (indexes .exit)) (originsIn (now (origins .exit))))
+        ≡ fromRoom (verticesIn (lentBy columns (now (xs .entry)) (now (ys .entry)) (now (bulges .entry)))) closed settings
+        (buffers (lentBy columns (now (outxs .entry)) (now (outys .entry)) (now (outbulges .entry))) (now (flags .entry)) (now (indexes .entry)) (originsIn (now (origins .entry)))) ⌝ }
 {
     let room = moves_a_segment(pointed) * source::segment_count(v, closed);
-    if !has_room(
-        room,
-        vertices.len(),
-        flags.len(),
-        indexes.len(),
-        origins.len(),
-    ) {
+    let fit = source::vertex_count(columns, outxs.len(), outys.len(), outbulges.len());
+    if !has_room(room, fit, flags.len(), indexes.len(), origins.len()) {
         return RawOffsetAnswer::Refused(Refusal::NoRoom);
     }
     if settings.offset == 0.0 {
         return RawOffsetAnswer::Done(sheet::copy(
-            source,
+            columns,
+            xs,
+            ys,
+            bulges,
             v,
             closed,
             room,
-            vertices,
+            outxs,
+            outys,
+            outbulges,
             flags,
             indexes,
             origins,
         ));
     }
     offset_nonzero(
-        source,
+        columns,
+        xs,
+        ys,
+        bulges,
         v,
         closed,
         settings,
         pointed,
         room,
-        vertices,
+        outxs,
+        outys,
+        outbulges,
         flags,
         indexes,
         origins,
@@ -237,33 +342,44 @@ fn offset_good(
 
 // An offset that is not zero, with room for what it draws.
 fn offset_nonzero(
-    source: &[f64],
+    columns: bool,
+    xs: &[f64],
+    ys: &[f64],
+    bulges: &[f64],
     v: usize,
     closed: bool,
     settings: Settings,
     pointed: bool,
     room: usize,
-    vertices: &mut [f64],
+    outxs: &mut [f64],
+    outys: &mut [f64],
+    outbulges: &mut [f64],
     flags: &mut [u8],
     indexes: &mut [u32],
     origins: &mut [u32],
 ) -> RawOffsetAnswer
-    requires { ⌜ Drawable v (segmentsOf closed v) room settings pointed (now source) (buffers (now vertices) (now flags) (now indexes) (originsIn (now origins))) ⌝ }
-    ensures { λ r. ⌜ ending r (buffers (now (vertices .exit)) (now (flags .exit)) (now (indexes .exit)) (originsIn (now (origins .exit))))
-        ≡ placed room (distinctVerdict closed settings (verticesOf (now (source .entry)))) (buffers (now (vertices .entry)) (now (flags .entry)) (now (indexes .entry)) (originsIn (now (origins .entry)))) ⌝ }
+    requires { ⌜ Drawable v (segmentsOf closed v) room settings pointed (verticesIn (lentBy columns (now xs) (now ys) (now bulges))) (held columns (now outxs) (now outys) (now outbulges) (now flags) (now indexes) (now origins)) ⌝ }
+    ensures { λ r. ⌜ ending r (buffers (lentBy columns (now (outxs .exit)) (now (outys .exit)) (now (outbulges .exit))) (now (flags .exit)) (now (indexes .exit)) (originsIn (now (origins .exit))))
+        ≡ placed room (distinctVerdict closed settings (verticesIn (lentBy columns (now (xs .entry)) (now (ys .entry)) (now (bulges .entry)))))
+        (buffers (lentBy columns (now (outxs .entry)) (now (outys .entry)) (now (outbulges .entry))) (now (flags .entry)) (now (indexes .entry)) (originsIn (now (origins .entry)))) ⌝ }
 {
-    let repeated = refusals::first_repeated(source, v, closed);
+    let repeated = refusals::first_repeated(columns, xs, ys, bulges, v, closed);
     if let Place::At(k) = repeated {
         return RawOffsetAnswer::Refused(Refusal::Repeated(k));
     }
     let built = sheet::draw(
-        source,
+        columns,
+        xs,
+        ys,
+        bulges,
         v,
         closed,
         settings,
         pointed,
         room,
-        vertices,
+        outxs,
+        outys,
+        outbulges,
         flags,
         indexes,
         origins,
