@@ -2,6 +2,7 @@
 // C name. It is a crate of its own, so that its walk is compiled apart from the one that draws.
 ghost use mathlib.Core.Path.{_≡_};
 ghost use Rattle.segments.specs.Modes.{pointedBy};
+ghost use Rattle.source.specs.Source.{rows};
 ghost use Rattle.why.specs.Why.{whyOf, numbersOf};
 ghost use Rattle.why.specs.Handed.{handed, handedOf};
 use segments::OutputSegment;
@@ -21,7 +22,7 @@ pub extern "C" fn blidrosk_why_pointed(
     answer: &mut [u32; 7],
     params: &mut [f64; 2],
 ) -> u32
-    ensures { λ r. ⌜ handed r (now (answer .exit)) (now (params .exit)) ≡ handedOf (numbersOf (whyOf (now (source .entry)) closed (pointedBy offset eps ratio) segment)) ⌝ }
+    ensures { λ r. ⌜ handed r (now (answer .exit)) (now (params .exit)) ≡ handedOf (numbersOf (whyOf (rows (now (source .entry))) closed (pointedBy offset eps ratio) segment)) ⌝ }
 {
     let settings = Settings::pointed(offset, eps, ratio);
     let told = why::why(source, closed, settings, OutputSegment(segment));

@@ -14,8 +14,6 @@ use Rattle.floats.specs.Choice.{when_give_else_}
 use Rattle.vectors.specs.declared.Vector2.{Vector2}
 use Rattle.segments.specs.declared.Settings.{Settings}
 use Rattle.segments.specs.declared.PlineVertex.{PlineVertex}
-use Rattle.source.specs.Source.{segmentsOf}
-use Rattle.source.proofs.Source.{length-vertices}
 use Rattle.source.proofs.Segments.{segments-closed, segments-open, segments-none, segments-most}
 use Rattle.moves.specs.declared.Move.{Move}
 use Rattle.moves.specs.declared.Origin.{Origin}
@@ -131,16 +129,12 @@ module _ (j : Job) (d : Drawing) (w : DoneWith j d) (s : ℕ) where
 -- ---- by the ways out of a job
 
 module _ (j : Job) where
-  -- the source's segments, counted by its vertices
-  counted : segmentsOf (j .closed) (length (points j)) ≡ sources j
-  counted = ap (segmentsOf (j .closed)) (length-vertices (j .source))
-
   done-few : Numbers j → count j < 2 → outcome j ≡ placed (places j) (drawn nothing) (j .buffers) → DoneWith j nothing
   done-few n l e = record {
     is = e;
     even = even-nothing;
     few-origins = omega arith;
-    few-vertices = n .whole .few;
+    few-vertices = n .countable .few;
     level = none;
     below = λ o x. absurd (List·Memᴰ·not-nil x);
     one = λ s z m. let none = segments-none (j .closed) (count j) l in absurd (omega arith);
@@ -149,15 +143,14 @@ module _ (j : Job) where
   done-copy : Roomy j → outcome j ≡ placed (places j) (drawn (copied (j .closed) (points j))) (j .buffers) → DoneWith j (copied (j .closed) (points j))
   unfolding copied
   done-copy r e =
-      let n = segmentsOf (j .closed) (length (points j)) in
+      let n = sources j in
       let spans = length-spans 0 n in
-      let is = counted in
       let more = product-most 1 (movesASegment (j .settings .corners)) (sources j) (omega (arith, two-moves (j .settings .corners))) in
       record {
         is = e;
-        even = even-copied (j .closed) (points j) (rw (length-vertices (j .source)) (r .two));
+        even = even-copied (j .closed) (points j) (r .two);
         few-origins = omega (arith, more);
-        few-vertices = r .numbers .whole .few;
+        few-vertices = r .numbers .countable .few;
         level = in-front _ _ (spans-climb 0 n);
         below = λ o x. omega (arith, spans-below 0 n x);
         one = λ s z m. copy-part s n (omega arith);
@@ -165,13 +158,12 @@ module _ (j : Job) where
 
   done-whole : Numbers j → (T (eq (j .settings .offset) zero) → ⊥) → outcome j ≡ placed (places j) (drawn (drawing j)) (j .buffers) → DoneWith j (drawing j)
   done-whole n z e =
-      let is = counted in
-      let room = rw counted at (drawing-fits (j .closed) (j .settings) (points j)) in
+      let room = drawing-fits (j .closed) (j .settings) (points j) in
       record {
         is = e;
         even = even-drawing (j .closed) (j .settings) (points j);
         few-origins = omega (arith, room .flags, room .origins);
-        few-vertices = n .whole .few;
+        few-vertices = n .countable .few;
         level = drawing-never-falls (j .closed) (j .settings) (points j);
         below = λ o x. omega (arith, drawing-below (j .closed) (j .settings) (points j) x);
         one = λ s y m. absurd (z y);

@@ -1,14 +1,15 @@
 -- The answer to each question is held to the job's own answer and buffers (`tells`): a refusal of the job, but for room, is the answer, and room never is; No. 8 is given exactly where
--- there is no such output segment; the flag is set exactly for the reasons 2, 3 and 7 to 11; and what is told is the segment of a copy, or the k-th kept move of the walk. Assumes nothing.
+-- there is no such output segment; the flag is set exactly for the reasons 2, 3 and 7 to 11; and what is told is the segment of a copy, or the k-th kept move of the walk.
+-- An answer is the same in either layout (`why-carried`). Assumes nothing.
 use mathlib.Core.Path.{_≡_, refl, sym, ap, _∙_, subst}
 use mathlib.Core.Logic.{_⊎_, inl, inr, _↔_}
 use mathlib.Core.List.{List, [], _∷_, _++_, append-assoc, List·Memᴰ, List·Memᴰ·head, List·Memᴰ·tail}
 use mathlib.Core.Bool.{Bool, true, false, not, true≢false, false≢true}
-use Prim.Native.Nat.{ℕ, zero, suc, _-_, _%_, _≤_, _<_}
+use Prim.Native.Nat.{ℕ, zero, suc, _-_, _≤_, _<_}
 use native.Mathlib.Nat.{zero-add}
 use native.Mathlib.Omega.{arith}
 use borrow.Author.Tests.{ltb-true, ltb-false, lt-ltb, le-ltb}
-use lib.Dec.{T, ltb, eqb}
+use lib.Dec.{T, ltb}
 use lib.ListN.{length, drop, getD, replicate, length-append, length-replicate, getD-replicate, List·getD-append}
 use lib.Ieee.{eq}
 use Rattle.floats.specs.Binary64 as B
@@ -18,8 +19,8 @@ use Rattle.floats.proofs.Order.{fails}
 use Rattle.vectors.specs.declared.Vector2.{Vector2}
 use Rattle.segments.specs.declared.PlineVertex.{PlineVertex}
 use Rattle.segments.specs.declared.Settings.{Settings}
-use Rattle.source.specs.Source.{segmentsOf}
-use Rattle.source.proofs.Source.{length-vertices}
+use Rattle.source.specs.Source.{Lent, isWhole, segmentsOf}
+use Rattle.source.proofs.Source.{whole-same}
 use Rattle.source.proofs.Segments.{segments-closed, segments-open, segments-none}
 use Rattle.refusals.specs.declared.Refusal.{Refusal}
 use Rattle.refusals.specs.declared.Refusal.the-variants.{Ragged, TooMany, BadNumber, NoRoom, NoSuchSegment}
@@ -50,6 +51,7 @@ use Rattle.job.specs.declared.RawOffsetAnswer.{RawOffsetAnswer}
 use Rattle.job.specs.declared.RawOffsetAnswer.the-variants as Job
 use Rattle.job.specs.Verdict.{Verdict, refused, drawn, refuse_at_else_, roomFor, roomyVerdict, verdictOf}
 use Rattle.job.specs.Job.{Outcome, placed, hasRoom, jobOf}
+use Rattle.job.specs.Layouts.{SameSource}
 use Rattle.job.specs.Rows.{Job, outcome, count, places, Roomy, Distinct}
 use Rattle.job.specs.Demand3.{close}
 use Rattle.job.proofs.Ways.{points, drawing, Way, ragged, many, bad, few, tight, copy, repeated, endless, whole, leadsTo, ends, way}
@@ -110,7 +112,7 @@ module _ (j : Job) (k : ℕ) where
 
   by-job : (outcome j .answer ≡ Job.Refused NoRoom → ⊥) → answered j k ≡ instead told (outcome j .answer)
   unfolding whyOf jobOf
-  by-job = by-length told _ (j .buffers) (not (eqb (length (j .source) % 3) 0)) _ _ (room-aside (hasRoom (j .buffers)) (j .closed) (j .settings) (points j))
+  by-job = by-length told _ (j .buffers) (not (isWhole (j .source))) _ _ (room-aside (hasRoom (j .buffers)) (j .closed) (j .settings) (points j))
 
   by-refusal : (r : Refusal) → outcome j .answer ≡ Job.Refused r → (r ≡ NoRoom → ⊥) → answered j k ≡ Refused r
   by-refusal r e n = by-job (λ q. n (cc)) ∙ ap (instead told) e
@@ -269,7 +271,7 @@ module _ (j : Job) (k : ℕ) (r : Roomy j) (z : T (eq (j .settings .offset) B.ze
   as-copied = by-done j k _ (ap (λ (o : Outcome). o .answer) is) ∙ sym (yes _ _ _ (passes _ .1 z) refl)
 
   segments : segmentsIn (resultOf (copied (j .closed) (points j))) ≡ n
-  segments = copy-segments (j .closed) (points j) (rw (length-vertices (j .source)) (r .two))
+  segments = copy-segments (j .closed) (points j) (r .two)
 
   clear : k < n → getD (outcome j .buffers .flags) k 0 ≡ 0
   unfolding copied
@@ -420,7 +422,7 @@ module _ (j : Job) (k : ℕ) where
 
   of-few : count j < 2 → outcome j .answer ≡ Job.Done (resultOf nothing) → OfDone j k (resultOf nothing)
   of-few h e =
-      none-there j k _ (by-done j k _ e ∙ few-told (points j) (rw (length-vertices (j .source)) h) (eq (j .settings .offset) B.zero)) (unfold when_give_else_ in omega arith)
+      none-there j k _ (by-done j k _ e ∙ few-told (points j) h (eq (j .settings .offset) B.zero)) (unfold when_give_else_ in omega arith)
 
   by-way : (w : Way j) → outcome j ≡ leadsTo j w → (r : RawOffsetResult) → leadsTo j w .answer ≡ Job.Done r → OfDone j k r
   by-way (ragged x) is r e = absurd (true≢false (cc))
@@ -434,8 +436,8 @@ module _ (j : Job) (k : ℕ) where
   by-way (whole x f) is r e = subst (OfDone j k) (cc) (from-two (points j) refl)
     where
       from-two : (ws : List PlineVertex) → points j ≡ ws → OfDone j k (resultOf (drawing j))
-      from-two [] q = let n : length (points j) ≡ 0 = ap length q in let m = x .roomy .two in absurd (omega (arith, length-vertices (j .source)))
-      from-two (a ∷ []) q = let n : length (points j) ≡ 1 = ap length q in let m = x .roomy .two in absurd (omega (arith, length-vertices (j .source)))
+      from-two [] q = let n : length (points j) ≡ 0 = ap length q in let m = x .roomy .two in absurd (omega arith)
+      from-two (a ∷ []) q = let n : length (points j) ≡ 1 = ap length q in let m = x .roomy .two in absurd (omega arith)
       from-two (a ∷ b ∷ vs) q = of-walk j k a b vs q x f is
 
 -- ---- the claim
@@ -446,3 +448,10 @@ tells j k = record {
   only = only-given (j .source) (j .closed) (j .settings) k;
   done = λ r e. by-way j k (way j) (sym (ends j (way j))) r (ap (λ (o : Outcome). o .answer) (ends j (way j)) ∙ e);
 }
+
+-- ---- from one layout to the other
+
+-- sources that make the same vertices have the same answer: so a job in columns is explained by asking in rows
+pub why-carried : (s t : Lent) (closed : Bool) (σ : Settings) (k : ℕ) → SameSource s t → whyOf s closed σ k ≡ whyOf t closed σ k
+unfolding whyOf
+why-carried s t closed σ k same = rw (whole-same s t (same .whole), same .vertices)

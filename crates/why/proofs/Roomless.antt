@@ -2,15 +2,15 @@
 use mathlib.Core.Path.{_≡_, subst}
 use mathlib.Core.List.{List, [], _∷_}
 use mathlib.Core.Bool.{Bool, true, false, not}
-use Prim.Native.Nat.{ℕ, zero, suc, _%_}
-use lib.Dec.{eqb, ltb}
+use Prim.Native.Nat.{ℕ, zero, suc}
+use lib.Dec.{ltb}
 use lib.ListN.{length}
-use lib.Ieee.{Float, eq}
+use lib.Ieee.{eq}
 use Rattle.floats.specs.Binary64 as B
 use Rattle.floats.specs.Choice.{when_give_else_}
 use Rattle.segments.specs.declared.PlineVertex.{PlineVertex}
 use Rattle.segments.specs.declared.Settings.{Settings}
-use Rattle.source.specs.Source.{verticesOf, segmentsOf}
+use Rattle.source.specs.Source.{Lent, verticesIn, isWhole, segmentsOf}
 use Rattle.refusals.specs.declared.Refusal.{Refusal}
 use Rattle.refusals.specs.declared.Refusal.the-variants.{TooMany, BadNumber, Repeated, NotFinite}
 use Rattle.refusals.specs.declared.Place.{Place}
@@ -94,11 +94,11 @@ by-answers : (v : Verdict) (told : WhyAnswer) → Decides v → Answers told →
 by-answers (refused r) told h g = h
 by-answers (drawn d) told h g = g
 
-why-answers : (source : List Float) (closed : Bool) (σ : Settings) (k : ℕ) → Answers (whyOf source closed σ k)
+why-answers : (source : Lent) (closed : Bool) (σ : Settings) (k : ℕ) → Answers (whyOf source closed σ k)
 unfolding whyOf
 why-answers source closed σ k =
-    let vs = verticesOf source in
-    either Answers (not (eqb (length source % 3) 0)) ragged (by-answers (verdictOf (λ room. true) closed σ vs) _ (verdict-decides closed σ vs) (told-answers closed σ vs k))
+    let vs = verticesIn source in
+    either Answers (not (isWhole source)) ragged (by-answers (verdictOf (λ room. true) closed σ vs) _ (verdict-decides closed σ vs) (told-answers closed σ vs k))
 
-pub only-given : (source : List Float) (closed : Bool) (σ : Settings) (k : ℕ) (r : Refusal) → whyOf source closed σ k ≡ Refused r → Given r
+pub only-given : (source : Lent) (closed : Bool) (σ : Settings) (k : ℕ) (r : Refusal) → whyOf source closed σ k ≡ Refused r → Given r
 only-given source closed σ k r e = subst Answers e (why-answers source closed σ k)

@@ -8,6 +8,7 @@ use lib.Ieee.{Float, binary64, ofBits}
 use Rattle.floats.specs.Binary64.{zero, one, two, four}
 use Rattle.segments.specs.declared.Settings.{Settings}
 use Rattle.segments.specs.Modes.{roundBy, pointedBy}
+use Rattle.source.specs.Source.{rows as lent}
 use Rattle.meetings.specs.declared.ArcRule.the-variants.{NoRule}
 use Rattle.joins.specs.Rules.{ruledBoundary}
 use Rattle.refusals.specs.declared.Refusal.the-variants.{NoSuchSegment}
@@ -40,7 +41,7 @@ pub record Row : Type 0 where
   pub answer : WhyAnswer
 
 abbrev pub answerOf : Row → WhyAnswer
-answerOf r = whyOf (flat (r .points)) (r .closed) (r .settings) (r .segment)
+answerOf r = whyOf (lent (flat (r .points))) (r .closed) (r .settings) (r .segment)
 
 -- of straight segments no rule is told
 abbrev pub told : Origin → Reason → Float → Float → WhyAnswer

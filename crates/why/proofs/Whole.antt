@@ -2,20 +2,20 @@
 use mathlib.Core.Path.{_≡_, refl, sym, ap, _∙_}
 use mathlib.Core.List.{List, [], _∷_, _++_}
 use mathlib.Core.Bool.{Bool, true, false, not}
-use Prim.Native.Nat.{ℕ, _+_, _*_, _-_, _/_, _%_, _<_, _≤_}
+use Prim.Native.Nat.{ℕ, _+_, _*_, _-_, _<_, _≤_}
 use native.Mathlib.Omega.{arith}
-use borrow.Author.Tests.{eq-eqb, ne-eqb, lt-ltb, le-ltb}
+use borrow.Author.Tests.{lt-ltb, le-ltb}
 use lib.Dec.{eqb}
 use lib.ListN.{length, drop}
-use lib.Ieee.{Float, eq}
+use lib.Ieee.{eq}
 use Rattle.floats.specs.Binary64.{zero}
 use Rattle.floats.specs.Choice.{when_give_else_}
 use Rattle.floats.proofs.Choice.{yes, no}
 use Rattle.segments.specs.declared.PlineVertex.{PlineVertex}
 use Rattle.segments.specs.declared.Settings.{Settings}
-use Rattle.source.specs.Source.{verticesOf, segmentsOf}
+use Rattle.source.specs.Source.{Lent, verticesIn, Whole, isWhole, segmentsOf}
 use Rattle.source.specs.InnerSteps.{vertexOf, nextOf}
-use Rattle.source.proofs.Source.{length-vertices}
+use Rattle.source.proofs.Source.{whole-passes}
 use Rattle.source.proofs.Segments.{segments-none}
 use Rattle.refusals.specs.declared.Refusal.the-variants.{Ragged, TooMany, BadNumber, Repeated, NotFinite, NoSuchSegment}
 use Rattle.refusals.specs.declared.Place.the-variants.{Nowhere, At}
@@ -52,8 +52,8 @@ asks-added closed σ k (c ∷ vs) q =
     record { source = omega (arith, m .source, n .source); number = omega (arith, m .number, n .number, moves-few (σ .corners)) }
 
 -- and of the code
-pub turns-added : (closed : Bool) (σ : Settings) (k : ℕ) (s : List Float) (v n p : ℕ) (a : Asking) (q : Asked) → asked a ≡ asks closed σ k (routed v n p s) q → Added n q (asked a)
-turns-added closed σ k s v n p a q e = rw e (rw (length-routed v n p s) at (asks-added closed σ k (routed v n p s) q))
+pub turns-added : (closed : Bool) (σ : Settings) (k : ℕ) (vs : List PlineVertex) (v n p : ℕ) (a : Asking) (q : Asked) → asked a ≡ asks closed σ k (routed v n p vs) q → Added n q (asked a)
+turns-added closed σ k vs v n p a q e = rw e (rw (length-routed v n p vs) at (asks-added closed σ k (routed v n p vs) q))
 
 pub none-added : (m : ℕ) (v : PlineVertex) (a : Asking) → asked a ≡ standingAsked v m → (a .walk .source .0 ≡ 0) × (a .walk .pen .number .0 ≡ 0)
 unfolding standingAsked standingAt
@@ -63,28 +63,28 @@ pub ready-first : (n m : ℕ) (v : PlineVertex) (a : Asking) → (asked a ≡ st
 ready-first n m v a e l = let z = none-added m v a (e .0) in record { fit = e .1; sources = omega (arith, z .0); outputs = omega (arith, z .1) }
 
 -- ---- the source
-module _ (σ : Settings) (k : ℕ) (s : List Float) (v : ℕ) (long : 3 * v ≡ length s) (two : 2 ≤ v) where
+module _ (σ : Settings) (k : ℕ) (vs : List PlineVertex) (v : ℕ) (long : v ≡ length vs) (two : 2 ≤ v) where
   abbrev rest : List PlineVertex
-  rest = drop 2 (verticesOf s)
+  rest = drop 2 vs
 
-  pub open-whole : lastAnswer (eqb v 2) (σ .eps) k (asks false σ k (routed v (v - 1) 1 s) (standingAsked (vertexOf s 0) 1)) ≡ drawnAnswer false σ (verticesOf s) k
+  pub open-whole : lastAnswer (eqb v 2) (σ .eps) k (asks false σ k (routed v (v - 1) 1 vs) (standingAsked (vertexOf vs 0) 1)) ≡ drawnAnswer false σ vs k
   open-whole =
-      rw (open-route s v long two)
-      (ap (λ n. lastAnswer (eqb n 2) (σ .eps) k (asks false σ k (vertexOf s 1 ∷ rest) (standingAsked (vertexOf s 0) 1))) (sym (others s v long two))
-      ∙ open-answered σ k (vertexOf s 0) (vertexOf s 1) rest
-      ∙ ap (λ (vs : List PlineVertex). drawnAnswer false σ vs k) (sym (first-two s v long two)))
+      rw (open-route vs v long two)
+      (ap (λ n. lastAnswer (eqb n 2) (σ .eps) k (asks false σ k (vertexOf vs 1 ∷ rest) (standingAsked (vertexOf vs 0) 1))) (sym (others vs v long two))
+      ∙ open-answered σ k (vertexOf vs 0) (vertexOf vs 1) rest
+      ∙ ap (λ (ws : List PlineVertex). drawnAnswer false σ ws k) (sym (first-two vs v long two)))
 
-  pub closed-whole : let led = asks true σ k (routed v 2 0 s) (standingAsked (vertexOf s (v - 1)) 2) in
-      closingAnswer (led .entry) (σ .eps) k (asks true σ k (routed v (v - 1) (nextOf v 1) s) led) ≡ drawnAnswer true σ (verticesOf s) k
+  pub closed-whole : let led = asks true σ k (routed v 2 0 vs) (standingAsked (vertexOf vs (v - 1)) 2) in
+      closingAnswer (led .entry) (σ .eps) k (asks true σ k (routed v (v - 1) (nextOf v 1) vs) led) ≡ drawnAnswer true σ vs k
   closed-whole =
-      rw (lead-route s v long two, around-route s v long two, ← last-is s v long two)
-      (closed-answered σ k (vertexOf s 0) (vertexOf s 1) rest ∙ ap (λ (vs : List PlineVertex). drawnAnswer true σ vs k) (sym (first-two s v long two)))
+      rw (lead-route vs v long two, around-route vs v long two, ← last-is vs v long two)
+      (closed-answered σ k (vertexOf vs 0) (vertexOf vs 1) rest ∙ ap (λ (ws : List PlineVertex). drawnAnswer true σ ws k) (sym (first-two vs v long two)))
 
   -- as the code asks: led in, and once around
-  pub closed-asked : (first led : Asking) {a : Asked} {p : ℕ} → asked first ≡ standingAsked (vertexOf s (v - 1)) 2 → asked led ≡ asks true σ k (routed v 2 0 s) (asked first)
-      → p ≡ nextOf v 1 → a ≡ asks true σ k (routed v (v - 1) p s) (asked led) → closingAnswer (led .entry) (σ .eps) k a ≡ drawnAnswer true σ (verticesOf s) k
+  pub closed-asked : (first led : Asking) {a : Asked} {p : ℕ} → asked first ≡ standingAsked (vertexOf vs (v - 1)) 2 → asked led ≡ asks true σ k (routed v 2 0 vs) (asked first)
+      → p ≡ nextOf v 1 → a ≡ asks true σ k (routed v (v - 1) p vs) (asked led) → closingAnswer (led .entry) (σ .eps) k a ≡ drawnAnswer true σ vs k
   closed-asked first led f l n e =
-      rw (e, n) (ap (λ (q : Asked). closingAnswer (q .entry) (σ .eps) k (asks true σ k (routed v (v - 1) (nextOf v 1) s) q)) (l ∙ rw f) ∙ closed-whole)
+      rw (e, n) (ap (λ (q : Asked). closingAnswer (q .entry) (σ .eps) k (asks true σ k (routed v (v - 1) (nextOf v 1) vs) q)) (l ∙ rw f) ∙ closed-whole)
 
 -- ---- from the zero offset on
 module _ (closed : Bool) (σ : Settings) (vs : List PlineVertex) (k : ℕ) where
@@ -109,9 +109,9 @@ module _ (closed : Bool) (σ : Settings) (vs : List PlineVertex) (k : ℕ) where
   drawn-good e h q = no _ _ _ e (q ∙ finite-answer ∙ ap (λ (x : Verdict). answerBy x (walkAnswer closed σ vs k)) (not-found _ _ _ h refl))
 
 -- ---- the first tests
-module _ (s : List Float) (closed : Bool) (σ : Settings) (k : ℕ) where
+module _ (s : Lent) (closed : Bool) (σ : Settings) (k : ℕ) where
   abbrev vertices : List PlineVertex
-  vertices = verticesOf s
+  vertices = verticesIn s
 
   -- what is told where the job is drawn
   abbrev told : WhyAnswer
@@ -120,26 +120,26 @@ module _ (s : List Float) (closed : Bool) (σ : Settings) (k : ℕ) where
   abbrev verdict : Verdict
   verdict = verdictOf (λ room. true) closed σ vertices
 
-  pub ragged-why : (length s % 3 ≡ 0 → ⊥) → Refused Ragged ≡ whyOf s closed σ k
+  pub ragged-why : isWhole s ≡ false → Refused Ragged ≡ whyOf s closed σ k
   unfolding whyOf
-  ragged-why h = yes _ _ _ (ap not (ne-eqb _ _ h)) refl
+  ragged-why h = yes _ _ _ (ap not h) refl
 
-  module _ (h : length s % 3 ≡ 0) where
-    in-threes : {a : WhyAnswer} → a ≡ answerBy verdict told → a ≡ whyOf s closed σ k
+  module _ (h : Whole s) (v : ℕ) (long : v ≡ length vertices) where
+    counted : {a : WhyAnswer} → a ≡ answerBy verdict told → a ≡ whyOf s closed σ k
     unfolding whyOf
-    in-threes q = no _ _ _ (ap not (eq-eqb _ _ h)) q
+    counted q = no _ _ _ (ap not (whole-passes s h)) q
 
-    pub many-why : 4096 < length s / 3 → Refused TooMany ≡ whyOf s closed σ k
+    pub many-why : 4096 < v → Refused TooMany ≡ whyOf s closed σ k
     unfolding verdictOf
-    many-why m = in-threes (ap (λ (x : Verdict). answerBy x told) (yes _ _ _ (lt-ltb 4096 (length vertices) (rw (length-vertices s) m)) refl))
+    many-why m = counted (ap (λ (x : Verdict). answerBy x told) (yes _ _ _ (lt-ltb 4096 (length vertices) (rw (← long) m)) refl))
 
-    module _ (most : length s / 3 ≤ 4096) where
+    module _ (most : v ≤ 4096) where
       few-enough : {a : WhyAnswer} {x : Verdict} → a ≡ answerBy x told → x ≡ verdictOf (λ room. true) closed σ vertices → a ≡ whyOf s closed σ k
-      few-enough q e = in-threes (q ∙ ap (λ (y : Verdict). answerBy y told) e)
+      few-enough q e = counted (q ∙ ap (λ (y : Verdict). answerBy y told) e)
 
       pub bad-why : (i : ℕ) → firstOf (numberTests vertices σ) ≡ At i → Refused (BadNumber i) ≡ whyOf s closed σ k
       unfolding verdictOf
-      bad-why i e = few-enough refl (no _ _ _ (le-ltb 4096 (length vertices) (rw (length-vertices s) most)) (found _ i _ _ e))
+      bad-why i e = few-enough refl (no _ _ _ (le-ltb 4096 (length vertices) (rw (← long) most)) (found _ i _ _ e))
 
       module _ (e : firstOf (numberTests vertices σ) ≡ Nowhere) where
         none-told : (vs : List PlineVertex) → length vs < 2
@@ -159,11 +159,11 @@ module _ (s : List Float) (closed : Bool) (σ : Settings) (k : ℕ) where
             by true = sym copy-none
             by false = refl
 
-        pub few-why : length s / 3 < 2 → Refused NoSuchSegment ≡ whyOf s closed σ k
+        pub few-why : v < 2 → Refused NoSuchSegment ≡ whyOf s closed σ k
         unfolding verdictOf
         few-why l =
-            few-enough (none-told vertices (rw (length-vertices s) l))
-            (no _ _ _ (le-ltb 4096 (length vertices) (rw (length-vertices s) most)) (not-found _ _ _ e (yes _ _ _ (lt-ltb (length vertices) 2 (rw (length-vertices s) l)) refl)))
+            few-enough (none-told vertices (rw (← long) l))
+            (no _ _ _ (le-ltb 4096 (length vertices) (rw (← long) most)) (not-found _ _ _ e (yes _ _ _ (lt-ltb (length vertices) 2 (rw (← long) l)) refl)))
 
         roomy : answerBy (roomyVerdict true closed σ vertices) told ≡ goodAnswer closed σ vertices k
         unfolding roomyVerdict goodAnswer when_give_else_
@@ -175,8 +175,8 @@ module _ (s : List Float) (closed : Bool) (σ : Settings) (k : ℕ) where
             by true = refl
             by false = refl
 
-        pub good-why : 2 ≤ length s / 3 → {a : WhyAnswer} → a ≡ goodAnswer closed σ vertices k → a ≡ whyOf s closed σ k
+        pub good-why : 2 ≤ v → {a : WhyAnswer} → a ≡ goodAnswer closed σ vertices k → a ≡ whyOf s closed σ k
         unfolding verdictOf
         good-why l q =
             few-enough (q ∙ sym roomy)
-            (no _ _ _ (le-ltb 4096 (length vertices) (rw (length-vertices s) most)) (not-found _ _ _ e (no _ _ _ (le-ltb (length vertices) 2 (rw (length-vertices s) l)) refl)))
+            (no _ _ _ (le-ltb 4096 (length vertices) (rw (← long) most)) (not-found _ _ _ e (no _ _ _ (le-ltb (length vertices) 2 (rw (← long) l)) refl)))

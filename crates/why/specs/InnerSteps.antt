@@ -118,8 +118,8 @@ pub record Ready (t : ℕ) (a : Asking) : Type 0 where
   pub outputs : a .walk .pen .number .0 + 3 * t < 0x1_0000_0000
 
 -- and over a source of v vertices, from place k on
-pub record Starts (v k t : ℕ) (a : Asking) (s : List Float) : Type 0 where
-  pub long : 3 * v ≡ length s
+pub record Starts (v k t : ℕ) (a : Asking) (vs : List PlineVertex) : Type 0 where
+  pub long : v ≡ length vs
   pub below : k < v
   pub ready : Ready t a
 

@@ -1,6 +1,6 @@
--- Why the flag of an output segment is set or clear (02's 2026-01): for a job and a number, which move that output segment is and for what reason. The moves are the kept ones
--- of the walk that the job's drawing is drawn by, and the refusals are the job's own. Definitions only.
-use Prim.Native.Nat.{ℕ, zero, suc, _%_}
+-- Why the flag of an output segment is set or clear (02's 2026-01): for a job, in rows or in columns (2026-08), and a number, which move that output segment is and for what
+-- reason. The moves are the kept ones of the walk that the job's drawing is drawn by, and the refusals are the job's own. Definitions only.
+use Prim.Native.Nat.{ℕ, zero, suc}
 use mathlib.Core.List.{List, [], _∷_}
 use mathlib.Core.Bool.{Bool, true, not}
 use lib.Dec.{eqb, ltb}
@@ -10,7 +10,7 @@ use Rattle.floats.specs.Binary64 as B
 use Rattle.floats.specs.Choice.{when_give_else_}
 use Rattle.segments.specs.declared.Settings.{Settings}
 use Rattle.segments.specs.declared.PlineVertex.{PlineVertex}
-use Rattle.source.specs.Source.{verticesOf, segmentsOf}
+use Rattle.source.specs.Source.{Lent, verticesIn, isWhole, segmentsOf}
 use Rattle.meetings.specs.declared.ArcRule.the-variants.{NoRule}
 use Rattle.meetings.specs.Rules.{ruleNumber}
 use Rattle.refusals.specs.declared.Refusal.the-variants.{Ragged, NoSuchSegment}
@@ -74,10 +74,10 @@ answerBy (refused r) told = Refused r
 answerBy (drawn d) told = told
 
 -- no buffer is lent: the job's verdict is that with room for anything
-unfoldable pub whyOf : List Float → Bool → Settings → ℕ → WhyAnswer
+unfoldable pub whyOf : Lent → Bool → Settings → ℕ → WhyAnswer
 whyOf source closed σ k =
-    let vs = verticesOf source in
-    when not (eqb (length source % 3) 0) give Refused Ragged else
+    let vs = verticesIn source in
+    when not (isWhole source) give Refused Ragged else
     answerBy (verdictOf (λ room. true) closed σ vs) (when eq (σ .offset) B.zero give copyAnswer (segmentsOf closed (length vs)) k else walkAnswer closed σ vs k)
 
 -- ---- as callers get it: of a refusal all but number and place is 0

@@ -8,7 +8,7 @@ ghost use lib.Dec.{eqb, ltb};
 ghost use lib.ListN.{length};
 ghost use Rattle.floats.specs.Choice.{when_give_else_, _and_};
 ghost use Rattle.segments.specs.InnerSteps.{bulgeBy};
-ghost use Rattle.source.specs.Source.{verticesOf, segmentsOf};
+ghost use Rattle.source.specs.Source.{rows, verticesOf, segmentsOf};
 ghost use Rattle.source.specs.InnerSteps.{nextOf};
 ghost use Rattle.moves.specs.declared.Origin.the-variants.{Span};
 ghost use Rattle.moves.specs.InnerSteps.{tipFirst, sure};
@@ -362,8 +362,8 @@ fn ask_turns(
     settings: Settings,
     segment: OutputSegment,
 ) -> Asking
-    requires { ⌜ Starts v «from» turns first (now source) ⌝ }
-    ensures { λ r. ⌜ (asked r ≡ asks closed settings (segment .0) (routed v turns «from» (now (source .entry))) (asked first)) × Fit (r .walk) ⌝ }
+    requires { ⌜ Starts v «from» turns first (verticesOf (now source)) ⌝ }
+    ensures { λ r. ⌜ (asked r ≡ asks closed settings (segment .0) (routed v turns «from» (verticesOf (now (source .entry)))) (asked first)) × Fit (r .walk) ⌝ }
 {
     let mut asking = first;
     let mut k = from;
@@ -435,7 +435,7 @@ fn ask_closing(asking: Asking, closing: JoinBoundary, eps: f64, segment: OutputS
 
 // An open walk: led in by one turn, from the first vertex.
 fn ask_open(source: &[f64], v: usize, settings: Settings, segment: OutputSegment) -> WhyAnswer
-    requires { ⌜ Counted v (now source) ⌝ }
+    requires { ⌜ Counted v (verticesOf (now source)) ⌝ }
     ensures { λ r. ⌜ r ≡ drawnAnswer false settings (verticesOf (now (source .entry))) (segment .0) ⌝ }
 {
     let first = Asking::standing(source::vertex_at(source, 0), 1);
@@ -445,7 +445,7 @@ fn ask_open(source: &[f64], v: usize, settings: Settings, segment: OutputSegment
 
 // A closed walk: led in by two turns, from the last vertex, by the closing join.
 fn ask_closed(source: &[f64], v: usize, settings: Settings, segment: OutputSegment) -> WhyAnswer
-    requires { ⌜ Counted v (now source) ⌝ }
+    requires { ⌜ Counted v (verticesOf (now source)) ⌝ }
     ensures { λ r. ⌜ r ≡ drawnAnswer true settings (verticesOf (now (source .entry))) (segment .0) ⌝ }
 {
     let first = Asking::standing(source::vertex_at(source, v - 1), 2);
@@ -482,13 +482,13 @@ fn ask_good(
     settings: Settings,
     segment: OutputSegment,
 ) -> WhyAnswer
-    requires { ⌜ Counted v (now source) ⌝ }
+    requires { ⌜ Counted v (verticesOf (now source)) ⌝ }
     ensures { λ r. ⌜ r ≡ goodAnswer closed settings (verticesOf (now (source .entry))) (segment .0) ⌝ }
 {
     if settings.offset == 0.0 {
         return ask_copy(source::segment_count(v, closed), segment);
     }
-    let repeated = refusals::first_repeated(source, v, closed);
+    let repeated = refusals::first_repeated(false, source, source, source, v, closed);
     if let Place::At(k) = repeated {
         return WhyAnswer::Refused(Refusal::Repeated(k));
     }
@@ -523,7 +523,7 @@ const MOST_VERTICES: usize = 4096;
 // Why the flag of an output segment is set or clear. Any numbers may come in; no buffer is lent, so that
 // none can be too short.
 pub fn why(source: &[f64], closed: bool, settings: Settings, segment: OutputSegment) -> WhyAnswer
-    ensures { λ r. ⌜ r ≡ whyOf (now (source .entry)) closed settings (segment .0) ⌝ }
+    ensures { λ r. ⌜ r ≡ whyOf (rows (now (source .entry))) closed settings (segment .0) ⌝ }
 {
     if source.len() % 3 != 0 {
         return WhyAnswer::Refused(Refusal::Ragged);
@@ -532,7 +532,7 @@ pub fn why(source: &[f64], closed: bool, settings: Settings, segment: OutputSegm
     if MOST_VERTICES < v {
         return WhyAnswer::Refused(Refusal::TooMany);
     }
-    let bad = refusals::first_bad_number(source, v, settings);
+    let bad = refusals::first_bad_number(false, source, source, source, v, settings);
     if let Place::At(k) = bad {
         return WhyAnswer::Refused(Refusal::BadNumber(k));
     }

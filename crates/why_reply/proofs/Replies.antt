@@ -14,6 +14,7 @@ use Rattle.refusals.specs.declared.Refusal.the-variants as Refusal
 use Rattle.refusals.specs.Table.{numberOf, placeOf}
 use Rattle.segments.specs.declared.Corners.{Corners}
 use Rattle.segments.specs.declared.Settings.{Settings}
+use Rattle.source.specs.Source.{rows}
 use Rattle.packed.specs.declared.unpacked.Form.the-variants.{Either}
 use Rattle.packed.specs.declared.unpacked.Packed.{Packed}
 use Rattle.packed.specs.declared.unpacked.Packed.the-variants.{Job, Malformed}
@@ -58,7 +59,7 @@ module _ (bytes : List ℕ) (old : List Float) {p : Packed} {s : List Float} (e 
   refused m = none bytes k (decoded-none job corners old e m)
 
   pub worked : {closed : Bool} {v : ℕ} {σ : Settings} → p ≡ Job closed v σ
-      → packedReply bytes k ≡ tellingText (numbersOf (whyOf (take (3 * v) s) closed σ k))
+      → packedReply bytes k ≡ tellingText (numbersOf (whyOf (rows (take (3 * v) s)) closed σ k))
   unfolding packedReply packedAnswer
   worked j =
       let is = decoded-parts job corners old e j in

@@ -8,6 +8,7 @@ use Rattle.words.specs.Words.{bigEndian}
 use Rattle.refusals.specs.declared.Refusal.the-variants.{Malformed}
 use Rattle.refusals.specs.Table.{numberOf, placeOf}
 use Rattle.segments.specs.declared.Corners.{Corners}
+use Rattle.source.specs.Source.{rows}
 use Rattle.packed.specs.declared.unpacked.Form.the-variants.{Either}
 use Rattle.packed.specs.Packed.{wellFormed, sourceOf, closedOf, settingsOf, jobIn, cornersIn}
 use Rattle.packed.specs.Text.{refusalOf, toldOf}
@@ -23,7 +24,7 @@ tellingText n =
 
 -- why output segment k of a packed job is as it is, with corners that are told beside it
 unfoldable pub packedAnswer : Corners → List ℕ → ℕ → WhyAnswer
-packedAnswer corners job k = whyOf (sourceOf job) (closedOf job) (settingsOf corners job) k
+packedAnswer corners job k = whyOf (rows (sourceOf job)) (closedOf job) (settingsOf corners job) k
 
 -- 01 §5: what is no packed job is refused as malformed
 unfoldable pub packedReply : List ℕ → ℕ → List ℕ

@@ -9,6 +9,7 @@ ghost use Rattle.words.specs.Words.{bigEndian};
 ghost use Rattle.refusals.specs.declared.Refusal.the-variants.{Malformed};
 ghost use Rattle.refusals.specs.Table.{numberOf, placeOf};
 ghost use Rattle.packed.specs.Text.{refusalOf};
+ghost use Rattle.source.specs.Source.{rows};
 ghost use Rattle.why.specs.Why.{whyOf, numbersOf};
 ghost use Rattle.why_reply.specs.WhyReply.{tellingText, packedReply, whyReplyOf};
 use packed::Form;
@@ -75,8 +76,8 @@ fn tell(
     text: &mut [u8; 98304],
 ) -> usize
     ensures { λ r. ⌜ Counts r (now (text .exit)) ⌝ }
-    ensures { λ r. ⌜ r ≡ length (tellingText (numbersOf (whyOf (now (source .entry)) closed settings (segment .0)))) ⌝ }
-    ensures { λ r. ⌜ now (text .exit) ≡ tellingText (numbersOf (whyOf (now (source .entry)) closed settings (segment .0))) ++ drop r (now (text .entry)) ⌝ }
+    ensures { λ r. ⌜ r ≡ length (tellingText (numbersOf (whyOf (rows (now (source .entry))) closed settings (segment .0)))) ⌝ }
+    ensures { λ r. ⌜ now (text .exit) ≡ tellingText (numbersOf (whyOf (rows (now (source .entry))) closed settings (segment .0))) ++ drop r (now (text .entry)) ⌝ }
 {
     let answer = why::why(source, closed, settings, segment);
     let n = answer.numbers();

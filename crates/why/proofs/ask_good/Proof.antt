@@ -1,7 +1,6 @@
 -- `why::ask_good` meets its contract. Assumes nothing.
 use borrow.Author.Needs.{needs}
 use mathlib.Core.Path.{sym, _∙_}
-use Rattle.source.proofs.Source.{count-vertices}
 use Rattle.why.proofs.Whole.{copy-good, repeated-good, drawn-good}
 use Rattle.why.proofs.ask_good.Statement.{statement}
 use Rattle.why.proofs.ask_good.Tie as tie
@@ -11,7 +10,7 @@ returns c =
     let count = c .before in
     let then = count .before in
     let start = then .before .before .before in
-    copy-good _ _ _ _ (then .if1 .taken) (c .ask-copy .ensures ∙ rw (count .segment-count .ensures, count-vertices _ _ (start .pre .long)))
+    copy-good _ _ _ _ (then .if1 .taken) (c .ask-copy .ensures ∙ rw (count .segment-count .ensures, start .pre .long))
 
 returns-2 : tie.Need-returns-2
 returns-2 c =

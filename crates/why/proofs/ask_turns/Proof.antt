@@ -1,6 +1,7 @@
 -- `why::ask_turns` meets its contract. Assumes nothing.
 use Prim.Native.Nat.{_-_}
 use native.Mathlib.Omega.{arith}
+use Rattle.source.specs.Source.{verticesOf}
 use Rattle.sheet.specs.InnerSteps.{routed}
 use Rattle.why.specs.InnerSteps.{asked, asks}
 use Rattle.why.proofs.Turns.{Asks, asks-none, asks-turn, asks-done}
@@ -9,7 +10,8 @@ use Rattle.why.proofs.ask_turns.Tie as tie
 
 abbrev Inv-loop : tie.InvT-loop
 Inv-loop source v closed start n settings segment asking₀ k₀ i₀ asking k i =
-    Asks closed settings (segment .0) source v n (asks closed settings (segment .0) (routed v n start source) (asked asking₀)) i k asking
+    let vs = verticesOf source in
+    Asks closed settings (segment .0) vs v n (asks closed settings (segment .0) (routed v n start vs) (asked asking₀)) i k asking
 
 abbrev μ-loop : tie.MeasureT-loop
 μ-loop source v closed start n settings segment asking₀ k₀ i₀ asking k i = n - i
