@@ -1,6 +1,7 @@
 // The stage with round corners, for callers in C and Rust: one function, by its C name.
 ghost use mathlib.Core.Path.{_≡_};
 ghost use Rattle.segments.specs.Modes.{roundBy};
+ghost use Rattle.source.specs.Source.{rows};
 ghost use Rattle.moves.specs.Origins.{originsIn};
 ghost use Rattle.sheet.specs.Buffers.{buffers};
 ghost use Rattle.job.specs.Job.{jobOf};
@@ -20,8 +21,8 @@ pub extern "C" fn blidrosk_raw_offset(
     origins: &mut [u32],
     answer: &mut [u32; 5],
 ) -> u32
-    ensures { λ r. ⌜ handed r (now (answer .exit)) (buffers (now (vertices .exit)) (now (flags .exit)) (now (indexes .exit)) (originsIn (now (origins .exit))))
-        ≡ handedOf (jobOf (now (source .entry)) closed (roundBy offset eps) (buffers (now (vertices .entry)) (now (flags .entry)) (now (indexes .entry)) (originsIn (now (origins .entry))))) ⌝ }
+    ensures { λ r. ⌜ handed r (now (answer .exit)) (buffers (rows (now (vertices .exit))) (now (flags .exit)) (now (indexes .exit)) (originsIn (now (origins .exit))))
+        ≡ handedOf (jobOf (rows (now (source .entry))) closed (roundBy offset eps) (buffers (rows (now (vertices .entry))) (now (flags .entry)) (now (indexes .entry)) (originsIn (now (origins .entry))))) ⌝ }
 {
     let a = job::create_raw_offset(
         source,

@@ -2,6 +2,7 @@
 // It is a crate of its own, so that its walk is compiled apart from the round one.
 ghost use mathlib.Core.Path.{_≡_};
 ghost use Rattle.segments.specs.Modes.{pointedBy};
+ghost use Rattle.source.specs.Source.{rows};
 ghost use Rattle.moves.specs.Origins.{originsIn};
 ghost use Rattle.sheet.specs.Buffers.{buffers};
 ghost use Rattle.job.specs.Job.{jobOf};
@@ -22,8 +23,8 @@ pub extern "C" fn blidrosk_raw_offset_pointed(
     origins: &mut [u32],
     answer: &mut [u32; 5],
 ) -> u32
-    ensures { λ r. ⌜ handed r (now (answer .exit)) (buffers (now (vertices .exit)) (now (flags .exit)) (now (indexes .exit)) (originsIn (now (origins .exit))))
-        ≡ handedOf (jobOf (now (source .entry)) closed (pointedBy offset eps ratio) (buffers (now (vertices .entry)) (now (flags .entry)) (now (indexes .entry)) (originsIn (now (origins .entry))))) ⌝ }
+    ensures { λ r. ⌜ handed r (now (answer .exit)) (buffers (rows (now (vertices .exit))) (now (flags .exit)) (now (indexes .exit)) (originsIn (now (origins .exit))))
+        ≡ handedOf (jobOf (rows (now (source .entry))) closed (pointedBy offset eps ratio) (buffers (rows (now (vertices .entry))) (now (flags .entry)) (now (indexes .entry)) (originsIn (now (origins .entry))))) ⌝ }
 {
     let a = job::create_raw_offset_pointed(
         source,

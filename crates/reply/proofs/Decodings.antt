@@ -9,6 +9,7 @@ use Rattle.floats.proofs.Choice.{yes, no}
 use Rattle.segments.specs.declared.Settings.{Settings}
 use Rattle.refusals.specs.declared.Refusal.the-variants as Refusal
 use Rattle.refusals.specs.Table.{numberOf, placeOf}
+use Rattle.source.specs.Source.{rows}
 use Rattle.job.specs.Job.{jobOf}
 use Rattle.packed.specs.declared.unpacked.Packed.{Packed}
 use Rattle.packed.specs.declared.unpacked.Packed.the-variants.{Job, Malformed}
@@ -26,7 +27,7 @@ module _ (asked : Asked) (form : Form) (bytes : List ℕ) (old : List Float) {p 
   refused m = sym (no _ _ _ (decoded-none (jobIn form bytes) (cornersIn form bytes) old e m) refl)
 
   pub worked : {closed : Bool} {v : ℕ} {σ : Settings} → p ≡ Job closed v σ
-      → replyBy asked form bytes ≡ answerText asked (jobOf (take (3 * v) s) closed σ blank)
+      → replyBy asked form bytes ≡ answerText asked (jobOf (rows (take (3 * v) s)) closed σ blank)
   unfolding replyBy outcomeOf
   worked j =
       let job = jobIn form bytes in

@@ -18,7 +18,9 @@ use Rattle.sheet.specs.Buffers.{Buffers}
 use Rattle.job.specs.declared.RawOffsetAnswer.{RawOffsetAnswer}
 use Rattle.job.specs.declared.RawOffsetAnswer.the-variants.{Done, Refused}
 use Rattle.job.specs.Job.{Outcome, number, ending}
-use Rattle.job.specs.Rows.{Job, outcome, places, Given, Short, vertices, flags, indexes, origins}
+use Rattle.floats.specs.Binary64.{zero}
+use Rattle.source.proofs.Source.{length-vertices}
+use Rattle.job.specs.Rows.{Job, outcome, count, places, Given, Short, vertices, flags, indexes, origins}
 use Rattle.job.proofs.Demand1.{demand-1}
 use Rattle.packed.specs.declared.unpacked.Form.{Form}
 use Rattle.packed.specs.Packed.{wellFormed, countOf, closedOf, sourceOf, settingsOf, jobIn, cornersIn}
@@ -26,7 +28,7 @@ use Rattle.packed.specs.Text.{placesOf, decimalOf, headOf, refusalOf, textOf, o
 use Rattle.packed.proofs.Bytes.{length-numbers, few, largest, too-long, cut-by}
 use Rattle.reply.specs.declared.Asked.{Asked}
 use Rattle.reply.specs.declared.Asked.the-variants.{Drawing, Origins}
-use Rattle.reply.specs.Reply.{doneText, answerText, outcomeOf, replyBy}
+use Rattle.reply.specs.Reply.{numbersIn, doneText, answerText, outcomeOf, replyBy}
 use Rattle.reply.proofs.Texts.{blankJob, places-most}
 
 -- ---- as answers
@@ -43,11 +45,14 @@ module _ (corners : Corners) (bytes : List ℕ) (well : wellFormed bytes ≡ tru
   given : (n : ℕ) → (n ≡ 3 → ⊥) → (n ≡ 5 → ⊥) → number (outcome job .answer) ≡ n → Given job n 0
   given n p q e = record { number = e; place = demand-1 job .placeless (λ z. p (sym e ∙ z)) (λ z. q (sym e ∙ z)) }
 
+  counted : count job ≡ countOf bytes
+  counted = let l = length-vertices (sourceOf bytes) in omega (arith, l, numbers)
+
   roomy : places job ≤ 1536
-  roomy = omega (arith, places-most job, numbers, few bytes well)
+  roomy = omega (arith, places-most job, counted, few bytes well)
 
   never-short : Short job → ⊥
-  never-short (vertices h) = omega (arith, roomy)
+  never-short (vertices h) = omega (arith, roomy, length-vertices (replicate 4608 zero))
   never-short (flags h) = omega (arith, roomy)
   never-short (indexes h) = omega (arith, roomy)
   never-short (origins h) = omega (arith, roomy, origins-length (replicate 1536 0))
@@ -56,7 +61,7 @@ module _ (corners : Corners) (bytes : List ℕ) (well : wellFormed bytes ≡ tru
   unfolding outcomeOf
   never = (
     λ e. demand-1 job .one .0 (given 1 (λ z. omega arith) (λ z. omega arith) e) (omega (arith, numbers)),
-    λ e. let r = demand-1 job .two .0 (given 2 (λ z. omega arith) (λ z. omega arith) e) in omega (arith, r .many, numbers, few bytes well),
+    λ e. let r = demand-1 job .two .0 (given 2 (λ z. omega arith) (λ z. omega arith) e) in omega (arith, r .many, counted, few bytes well),
     λ e. never-short (demand-1 job .four .0 (given 4 (λ z. omega arith) (λ z. omega arith) e) .short),
   )
 
@@ -68,7 +73,7 @@ module _ (corners : Corners) (bytes : List ℕ) (well : wellFormed bytes ≡ tru
 -- ---- as texts
 
 -- the first byte is the number's digit
-done-digit : (asked : Asked) (r : RawOffsetResult) (b : Buffers) → getD (doneText asked r (b .vertices) (b .flags) (b .origins)) 0 0 ≡ code "0"
+done-digit : (asked : Asked) (r : RawOffsetResult) (b : Buffers) → getD (doneText asked r (numbersIn (b .vertices)) (b .flags) (b .origins)) 0 0 ≡ code "0"
 unfolding doneText when_give_else_ textOf headOf originsText decimalOf placesOf
 done-digit Drawing r b = refl
 done-digit Origins r b = refl

@@ -12,7 +12,8 @@ use Rattle.segments.specs.declared.Corners.the-variants.{Round, Pointed}
 use Rattle.segments.specs.declared.Settings.{Settings}
 use Rattle.segments.specs.Modes.{roundBy, pointedBy}
 use Rattle.floats.proofs.Choice.{yes, no}
-use Rattle.source.specs.Source.{segmentsOf}
+use Rattle.source.specs.Source.{Lent, rows, segmentsOf}
+use Rattle.source.proofs.Source.{length-vertices}
 use Rattle.source.proofs.Segments.{segments-most}
 use Rattle.moves.specs.declared.Origin.{Origin}
 use Rattle.moves.specs.declared.RawOffsetResult.{RawOffsetResult}
@@ -27,7 +28,7 @@ use Rattle.packed.specs.Text.{refusalOf, textOf, originsText, printed}
 use Rattle.packed.proofs.Lines.{printed-text}
 use Rattle.reply.specs.declared.Asked.{Asked}
 use Rattle.reply.specs.declared.Asked.the-variants.{Drawing, Origins}
-use Rattle.reply.specs.Reply.{blank, doneText, answerText}
+use Rattle.reply.specs.Reply.{blank, numbersIn, doneText, answerText}
 
 -- ---- what is printed of a job that is done
 
@@ -44,7 +45,7 @@ module _ (r : RawOffsetResult) (vertices : List Float) (flags : List ℕ) (origi
 
 -- ---- the two calls, each for its corners
 
-module _ (s : List Float) (closed : Bool) (σ : Settings) (old : Buffers) where
+module _ (s : Lent) (closed : Bool) (σ : Settings) (old : Buffers) where
   pub by-round : σ .corners ≡ Round → jobOf s closed (roundBy (σ .offset) (σ .eps)) old ≡ jobOf s closed σ old
   by-round e = ap (λ c. jobOf s closed (record { offset = σ .offset; eps = σ .eps; corners = c }) old) (sym e)
 
@@ -55,7 +56,7 @@ module _ (s : List Float) (closed : Bool) (σ : Settings) (old : Buffers) where
 
 -- the job over blank buffers
 abbrev pub blankJob : List Float → Bool → Settings → Job
-blankJob s closed σ = record { source = s; closed = closed; settings = σ; buffers = blank }
+blankJob s closed σ = record { source = rows s; closed = closed; settings = σ; buffers = blank }
 
 -- three places a vertex are enough in either mode
 pub places-most : (j : Job) → places j ≤ 3 * count j
@@ -69,20 +70,21 @@ places-most j =
     three-most (Pointed ratio) = omega arith
 
 module _ (s : List Float) (closed : Bool) (σ : Settings) where
-  module _ {a : RawOffsetAnswer} {b : Buffers} (ends : ending a b ≡ jobOf s closed σ blank) where
+  module _ {a : RawOffsetAnswer} {b : Buffers} (ends : ending a b ≡ jobOf (rows s) closed σ blank) where
     pub few-printed : length s ≤ 1536 → {r : RawOffsetResult} → r ≡ result a → r .vertices ≤ 1536
     few-printed h {r} e =
         let f = vertices-fit (blankJob s closed σ) in
         let m = places-most (blankJob s closed σ) in
+        let l = length-vertices s in
         rw (e, ap (λ (o : Outcome). o .answer) ends) (omega arith)
 
     module _ (asked : Asked) {n : ℕ} (numbered : n ≡ number a) where
-      pub done-text : n ≡ 0 → {r : RawOffsetResult} → r ≡ result a → answerText asked (jobOf s closed σ blank) ≡ doneText asked r (b .vertices) (b .flags) (b .origins)
+      pub done-text : n ≡ 0 → {r : RawOffsetResult} → r ≡ result a → answerText asked (jobOf (rows s) closed σ blank) ≡ doneText asked r (numbersIn (b .vertices)) (b .flags) (b .origins)
       unfolding answerText
       done-text z {r} e = sym (yes _ _ _ (eq-eqb _ _ (ap (λ (o : Outcome). number (o .answer)) (sym ends) ∙ sym numbered ∙ z)) (rw (← ends, e)))
 
-      pub refusal-text : (n ≡ 0 → ⊥) → {k : ℕ} → k ≡ place a → answerText asked (jobOf s closed σ blank) ≡ refusalOf n k
+      pub refusal-text : (n ≡ 0 → ⊥) → {k : ℕ} → k ≡ place a → answerText asked (jobOf (rows s) closed σ blank) ≡ refusalOf n k
       unfolding answerText
       refusal-text z {k} e =
-          let not-done : number (jobOf s closed σ blank .answer) ≡ 0 → ⊥ = λ q. z (numbered ∙ ap (λ (o : Outcome). number (o .answer)) ends ∙ q) in
+          let not-done : number (jobOf (rows s) closed σ blank .answer) ≡ 0 → ⊥ = λ q. z (numbered ∙ ap (λ (o : Outcome). number (o .answer)) ends ∙ q) in
           sym (no _ _ _ (ne-eqb _ _ not-done) (rw (← ends, ← numbered, ← e)))

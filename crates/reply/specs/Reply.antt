@@ -10,12 +10,13 @@ use Rattle.floats.specs.Choice.{when_give_else_}
 use Rattle.segments.specs.declared.Corners.{Corners}
 use Rattle.refusals.specs.declared.Refusal.the-variants.{Malformed}
 use Rattle.refusals.specs.Table.{numberOf, placeOf}
-use Rattle.source.specs.Source.{segmentsOf}
+use Rattle.source.specs.Source.{Lent, rows, columns, segmentsOf}
 use Rattle.moves.specs.declared.Origin.{Origin}
 use Rattle.moves.specs.declared.RawOffsetResult.{RawOffsetResult}
 use Rattle.moves.specs.Origins.{originsIn}
 use Rattle.sheet.specs.Buffers.{Buffers, buffers}
 use Rattle.job.specs.Job.{Outcome, number, place, result, jobOf}
+use Rattle.job.specs.Layouts.{interleaved}
 use Rattle.packed.specs.declared.unpacked.Form.{Form}
 use Rattle.packed.specs.declared.unpacked.Form.the-variants.{Round, Pointed, Either}
 use Rattle.packed.specs.Packed.{wellFormed, sourceOf, closedOf, settingsOf, jobIn, cornersIn}
@@ -25,7 +26,12 @@ use Rattle.reply.specs.declared.Asked.the-variants.{Drawing, Origins}
 
 -- room for the offset of 512 vertices, closed: three vertices a segment
 abbrev pub blank : Buffers
-blank = buffers (replicate 4608 zero) (replicate 1536 0) (replicate 1536 0) (originsIn (replicate 1536 0))
+blank = buffers (rows (replicate 4608 zero)) (replicate 1536 0) (replicate 1536 0) (originsIn (replicate 1536 0))
+
+-- lent numbers in rows, as they are in these programs
+abbrev pub numbersIn : Lent → List Float
+numbersIn (rows ns) = ns
+numbersIn (columns xs ys bs) = interleaved xs ys bs
 
 -- done: the drawing with its flags (01 §5), or the origins of as many segments as its vertices have (02's 2026-09)
 unfoldable pub doneText : Asked → RawOffsetResult → List Float → List ℕ → List Origin → List ℕ
@@ -35,12 +41,12 @@ doneText Origins r vertices flags origins = originsText (segmentsOf (r .closed) 
 -- refused: the number and the place
 unfoldable pub answerText : Asked → Outcome → List ℕ
 answerText asked o =
-    when eqb (number (o .answer)) 0 give doneText asked (result (o .answer)) (o .buffers .vertices) (o .buffers .flags) (o .buffers .origins) else
+    when eqb (number (o .answer)) 0 give doneText asked (result (o .answer)) (numbersIn (o .buffers .vertices)) (o .buffers .flags) (o .buffers .origins) else
     refusalOf (number (o .answer)) (place (o .answer))
 
 -- what becomes of a packed job, with corners that are told beside it
 unfoldable pub outcomeOf : Corners → List ℕ → Outcome
-outcomeOf corners job = jobOf (sourceOf job) (closedOf job) (settingsOf corners job) blank
+outcomeOf corners job = jobOf (rows (sourceOf job)) (closedOf job) (settingsOf corners job) blank
 
 -- 01 §5: what is no packed job is refused as malformed
 unfoldable pub replyBy : Asked → Form → List ℕ → List ℕ

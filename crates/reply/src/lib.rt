@@ -7,6 +7,7 @@ ghost use Prim.Native.Nat.{_≤_};
 ghost use lib.ListN.{length, drop};
 ghost use Rattle.io.specs.Counts.{Counts};
 ghost use Rattle.moves.specs.Origins.{originsIn};
+ghost use Rattle.source.specs.Source.{rows};
 ghost use Rattle.sheet.specs.Buffers.{buffers};
 ghost use Rattle.job.specs.Job.{ending, jobOf};
 ghost use Rattle.reply.specs.Reply.{blank, doneText, answerText, replyBy, replyOf, pointedReplyOf, originsReplyOf};
@@ -86,8 +87,8 @@ fn work(
 ) -> usize
     requires { ⌜ length (now source) ≤ 1536 ⌝ }
     ensures { λ r. ⌜ Counts r (now (text .exit)) ⌝ }
-    ensures { λ r. ⌜ r ≡ length (answerText asked (jobOf (now (source .entry)) closed settings blank)) ⌝ }
-    ensures { λ r. ⌜ now (text .exit) ≡ answerText asked (jobOf (now (source .entry)) closed settings blank) ++ drop r (now (text .entry)) ⌝ }
+    ensures { λ r. ⌜ r ≡ length (answerText asked (jobOf (rows (now (source .entry))) closed settings blank)) ⌝ }
+    ensures { λ r. ⌜ now (text .exit) ≡ answerText asked (jobOf (rows (now (source .entry))) closed settings blank) ++ drop r (now (text .entry)) ⌝ }
 {
     let mut vertices = [0.0; VERTICES];
     let mut flags = [0u8; SEGMENTS];
@@ -119,8 +120,8 @@ fn create_raw_offset(
     indexes: &mut [u32],
     origins: &mut [u32],
 ) -> RawOffsetAnswer
-    ensures { λ r. ⌜ ending r (buffers (now (vertices .exit)) (now (flags .exit)) (now (indexes .exit)) (originsIn (now (origins .exit))))
-        ≡ jobOf (now (source .entry)) closed settings (buffers (now (vertices .entry)) (now (flags .entry)) (now (indexes .entry)) (originsIn (now (origins .entry)))) ⌝ }
+    ensures { λ r. ⌜ ending r (buffers (rows (now (vertices .exit))) (now (flags .exit)) (now (indexes .exit)) (originsIn (now (origins .exit))))
+        ≡ jobOf (rows (now (source .entry))) closed settings (buffers (rows (now (vertices .entry))) (now (flags .entry)) (now (indexes .entry)) (originsIn (now (origins .entry)))) ⌝ }
 {
     let corners = settings.corners;
     match corners {
