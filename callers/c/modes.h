@@ -1,4 +1,7 @@
-/* Both modes, round and pointed corners, behind one call each: so a test runs in both. */
+/*
+ * Both modes, round and pointed corners, behind one call each: so a test runs in both. Jobs can be
+ * lent in rows and in columns.
+ */
 #ifndef MODES_H
 #define MODES_H
 
@@ -54,6 +57,40 @@ static inline uint32_t offset_job(const struct job *job, const struct buffers *l
                                lent->vertices, lent->vertices_len, lent->flags, lent->flags_len,
                                lent->indexes, lent->indexes_len, lent->origins, lent->origins_len,
                                answer);
+}
+
+/* A job in columns: x, y and bulge, with a length each. */
+struct columns {
+    const char *name;
+    const double *numbers[3];
+    size_t lens[3];
+    bool closed;
+    double offset, eps;
+};
+
+/* The six buffers that it is lent. */
+struct column_buffers {
+    double *numbers[3];
+    uint8_t *flags;
+    uint32_t *indexes, *origins;
+    size_t lens[6]; /* of the three columns, of flags, of indexes, of origins */
+};
+
+static inline uint32_t offset_columns(const struct columns *job, const struct column_buffers *lent,
+                                      uint32_t answer[5])
+{
+    if (corners.pointed)
+        return blidrosk_raw_offset_columns_pointed(
+            job->numbers[0], job->lens[0], job->numbers[1], job->lens[1], job->numbers[2],
+            job->lens[2], job->closed, job->offset, job->eps, corners.ratio, lent->numbers[0],
+            lent->lens[0], lent->numbers[1], lent->lens[1], lent->numbers[2], lent->lens[2],
+            lent->flags, lent->lens[3], lent->indexes, lent->lens[4], lent->origins, lent->lens[5],
+            answer);
+    return blidrosk_raw_offset_columns(
+        job->numbers[0], job->lens[0], job->numbers[1], job->lens[1], job->numbers[2], job->lens[2],
+        job->closed, job->offset, job->eps, lent->numbers[0], lent->lens[0], lent->numbers[1],
+        lent->lens[1], lent->numbers[2], lent->lens[2], lent->flags, lent->lens[3], lent->indexes,
+        lent->lens[4], lent->origins, lent->lens[5], answer);
 }
 
 static inline uint32_t ask_job(const struct job *job, uint32_t segment, uint32_t answer[7],

@@ -6,18 +6,12 @@
 #include <stdio.h>
 
 #include "modes.h"
+#include "numbers.h"
 
 enum { MOST = 4096, SPARE = 2, PLACES = 3 * MOST + SPARE, ROWS = 12 };
 
-/* A number by its bits. */
-union number {
-    uint64_t bits;
-    double value;
-};
-
 static const union number BELOW_1 = {0x3fefffffffffffff}, ABOVE_10 = {0x4024000000000001};
 static const union number BELOW_1_25 = {0x3ff3ffffffffffff}, ABOVE_EPS = {0x3f80000000000001};
-static const union number INFINITE = {0x7ff0000000000000}, NOT_A_NUMBER = {0x7ff8000000000000};
 static const union number ROUND_BULGE = {0x3fda827999fcef33};
 
 /* A vertex of an output, and the segment that leaves it; reason 0 where none does. */
@@ -48,8 +42,6 @@ static void test(bool holds, const char *words, const struct job *job)
         failed = 1;
     }
 }
-
-static uint64_t pattern_at(uint64_t pattern, size_t i) { return pattern ^ i; }
 
 static void fill(uint64_t pattern)
 {
@@ -126,12 +118,6 @@ static bool sets_flag(uint32_t reason)
     return reason >= BLIDROSK_COLLAPSED_SIDE && reason <= BLIDROSK_SAME_DIRECTION;
 }
 
-static bool same_bits(double a, double b)
-{
-    union number x = {.value = a}, y = {.value = b};
-    return x.bits == y.bits;
-}
-
 /* Whether the first places are these rows, and the others of the room are zero. */
 static bool holds(const struct drawn *drawn, size_t room)
 {
@@ -164,14 +150,13 @@ static void test_drawn(const struct drawn *drawn)
 {
     const struct job *job = &drawn->job;
     const uint32_t wanted[5] = {BLIDROSK_DONE, 0, drawn->count, red_of(drawn), drawn->closed};
-    const uint64_t patterns[] = {0xfff5555555555555, 0x7ffaaaaaaaaaaaaa};
     corners.ratio = drawn->ratio;
     size_t room = room_for(segments_of(job));
     for (size_t i = 0; i < 4; i++) {
         struct buffers lent = all_of(i < 2 ? room : room + SPARE);
-        test_answer(job, &lent, patterns[i % 2], wanted);
+        test_answer(job, &lent, PATTERNS[i % 2], wanted);
         test(holds(drawn, room), "another drawing was wanted", job);
-        test(stays(patterns[i % 2], room), "a place past the room changed", job);
+        test(stays(PATTERNS[i % 2], room), "a place past the room changed", job);
     }
     uint32_t count = drawn->count - (drawn->count > 0 && !drawn->closed);
     for (uint32_t i = 0; i < count; i++)
@@ -302,7 +287,7 @@ static void test_alike(const struct job *job)
     corners.pointed = false;
     test(offset_job(job, &round, answer) == BLIDROSK_DONE, "it was refused", job);
     corners.pointed = true;
-    test_answer(job, &lent, 0xfff5555555555555, answer);
+    test_answer(job, &lent, PATTERNS[0], answer);
     bool same = true;
     for (size_t i = 0; i < room_for(segments_of(job)); i++)
         same = same && vertices[3 * i].bits == round_vertices[3 * i].bits &&
@@ -342,30 +327,17 @@ static void test_round(void)
 static void test_refused(const struct job *job, uint32_t number, uint32_t place)
 {
     const uint32_t wanted[5] = {number, place, 0, 0, 0};
-    const uint64_t patterns[] = {0xfff5555555555555, 0x7ffaaaaaaaaaaaaa};
     struct buffers lent = all_of(PLACES);
     for (size_t i = 0; i < 2; i++) {
-        test_answer(job, &lent, patterns[i], wanted);
-        test(stays(patterns[i], 0), "a refusal changed a place", job);
+        test_answer(job, &lent, PATTERNS[i], wanted);
+        test(stays(PATTERNS[i], 0), "a refusal changed a place", job);
     }
     test_not_told(job, 0, number, place);
     test_not_told(job, (uint32_t)-1, number, place);
 }
 
-/* Goes round itself at right angles, ever farther out, so that each corner is an outer one. */
+/* One vertex more than is taken. */
 static double spiral[3 * (MOST + 1)];
-
-static void wind(void)
-{
-    const int ways[4][2] = {{1, 0}, {0, 1}, {-1, 0}, {0, -1}};
-    int x = 0, y = 0;
-    for (int i = 0; i <= MOST; i++) {
-        spiral[3 * i] = x;
-        spiral[3 * i + 1] = y;
-        x += ways[i % 4][0] * (i / 2 + 1);
-        y += ways[i % 4][1] * (i / 2 + 1);
-    }
-}
 
 /* The ratio is tested last of the numbers, for every count of vertices and with a copy too. */
 static void test_ratios(void)
@@ -425,7 +397,7 @@ static struct buffers lent_less(uint32_t n, size_t buffer, size_t less)
 
 static void test_room_of(const struct job *job)
 {
-    const uint64_t pattern = 0x7ffaaaaaaaaaaaaa;
+    const uint64_t pattern = PATTERNS[1];
     const uint32_t no_room[5] = {BLIDROSK_NO_ROOM, 0, 0, 0, 0};
     const uint32_t bad_ratio[5] = {BLIDROSK_BAD_NUMBER, (uint32_t)(job->len / 3) + 2, 0, 0, 0};
     uint32_t n = segments_of(job);
@@ -465,7 +437,7 @@ static void test_not_finite(void)
     const struct drawn none = {
         {"not finite", far_off, 9, false, by, eps}, 2, false, 0, {{0, 0, 0, 0, 0}}};
     const uint32_t wanted[5] = {BLIDROSK_NOT_FINITE, 0, 0, 0, 0};
-    const uint64_t pattern = 0xfff5555555555555;
+    const uint64_t pattern = PATTERNS[0];
     struct buffers lent = all_of(PLACES);
     corners.ratio = none.ratio;
     size_t room = room_for(segments_of(&none.job));
@@ -481,7 +453,7 @@ static void test_many(size_t count)
     const struct job job = {"a spiral", spiral, 3 * count, false, -0.25, 1e-5};
     uint32_t n = (uint32_t)count - 1, drawn = 3 * n - 1;
     const uint32_t wanted[5] = {BLIDROSK_DONE, 0, drawn, 0, 0};
-    const uint64_t pattern = 0x7ffaaaaaaaaaaaaa;
+    const uint64_t pattern = PATTERNS[1];
     struct buffers lent = all_of(PLACES);
     corners.ratio = 1.5;
     test_answer(&job, &lent, pattern, wanted);
@@ -549,7 +521,7 @@ int main(void)
 {
     corners.pointed = true;
     print_letter();
-    wind();
+    wind(spiral, MOST + 1);
     test_drawings();
     test_round();
     test_ratios();

@@ -1,13 +1,15 @@
 /*
  * Blidrosk: the raw offset of a drawing of lines and arcs, for cutting tables.
  *
- * Five functions: blidrosk_raw_offset offsets a drawing, flags the invalid segments of the output
+ * Seven functions: blidrosk_raw_offset offsets a drawing, flags the invalid segments of the output
  * and names the origin of each; blidrosk_why tells of one output segment what it is and why its
  * flag is set or clear. Both draw outer corners round; blidrosk_raw_offset_pointed and
- * blidrosk_why_pointed draw those between two lines with a point. blidrosk_part finds the segments
- * of either output that belong to a source segment. They keep nothing between calls, allocate
- * nothing, and end at any numbers, NaN and infinities included. Link libblidrosk.a, which
- * tools/archive makes. Of the C library it takes memset, and nothing else.
+ * blidrosk_why_pointed draw those between two lines with a point. These four take drawings in rows,
+ * three numbers a vertex; blidrosk_raw_offset_columns and blidrosk_raw_offset_columns_pointed
+ * offset one that is lent in columns, all x, all y, all bulges, and write columns. blidrosk_part
+ * finds the segments of any of these outputs that belong to a source segment. They keep nothing
+ * between calls, allocate nothing, and end at any numbers, NaN and infinities included. Link
+ * libblidrosk.a, which tools/archive makes. Of the C library it takes memset, and nothing else.
  */
 #ifndef BLIDROSK_H
 #define BLIDROSK_H
@@ -23,15 +25,16 @@ extern "C" {
 /*
  * What became of a job or a question. Where several refusals apply, the one with the lowest number
  * is given. blidrosk_raw_offset refuses with 1 to 6, blidrosk_why with these but 4 and with 8, the
- * pointed ones as these two, and blidrosk_part with 1 and 13.
+ * pointed ones as these two, those in columns as the first, and blidrosk_part with 1 and 13.
  */
 enum blidrosk_number {
     BLIDROSK_DONE = 0,       /* done */
-    BLIDROSK_RAGGED = 1,     /* source_len is no multiple of 3; in blidrosk_part, flags_len and
-                                origins_len differ */
+    BLIDROSK_RAGGED = 1,     /* source_len is no multiple of 3; in columns, two of the source's
+                                differ in length; in blidrosk_part, flags_len and origins_len
+                                differ */
     BLIDROSK_TOO_MANY = 2,   /* more than 4096 vertices */
     BLIDROSK_BAD_NUMBER = 3, /* a NaN, an infinity, or a number out of its range, at `place` */
-    BLIDROSK_NO_ROOM = 4,    /* one of the four buffers is too short */
+    BLIDROSK_NO_ROOM = 4,    /* one of the buffers is too short */
     BLIDROSK_REPEATED = 5,   /* joined vertices equal in x and in y, the earlier at `place` */
     BLIDROSK_NOT_FINITE = 6, /* the drawing came out with a NaN or an infinity */
     /* 7 is the program rawoffset's own */
@@ -40,7 +43,7 @@ enum blidrosk_number {
     BLIDROSK_NO_SUCH_SOURCE_SEGMENT = 13 /* the source has no segment of that number */
 };
 
-/* Where the five entries of `answer` stand, of blidrosk_raw_offset and of the pointed one. */
+/* Where the five entries of `answer` stand, of each function that offsets a drawing. */
 enum blidrosk_entry {
     BLIDROSK_NUMBER = 0,   /* an enum blidrosk_number */
     BLIDROSK_PLACE = 1,    /* for numbers 3 and 5; 0 otherwise */
@@ -161,6 +164,64 @@ uint32_t blidrosk_raw_offset_pointed(const double *source, size_t source_len, bo
                                      size_t vertices_len, uint8_t *flags, size_t flags_len,
                                      uint32_t *indexes, size_t indexes_len, uint32_t *origins,
                                      size_t origins_len, uint32_t answer[5]);
+
+/*
+ * Offsets a drawing as blidrosk_raw_offset does, from three columns into three columns. Returns the
+ * number of the answer, which is answer[0] too.
+ *
+ *   xs, ys, bulges, .._len       the source: vertex i is xs[i], ys[i], bulges[i], each in its range
+ *                                there. The three have one length, v, the count of vertices.
+ *   out_xs, out_ys, out_bulges,  receive the output's vertices in the same way: vertex i in place i
+ *   .._len                       of each
+ *
+ * All else is as there: for the same drawing the same numbers come, in the same places of flags,
+ * indexes, origins and answer, with these differences.
+ *
+ * Lengths count numbers, not bytes and not vertices of three: each column has its own.
+ *
+ * Refusals. Number 1: two of xs_len, ys_len and bulges_len differ. It comes before all others.
+ * Number 3: its place is the first bad vertex, in whichever column its bad number stands; then v
+ * for the offset and v + 1 for eps. Number 4: one of the six buffers is too short, however long the
+ * others are.
+ *
+ * Room. Needed are 2n numbers in each output column, 2n flags, 2n indexes and 2n origins; nothing
+ * for fewer than two vertices. The six need not be equally long.
+ *
+ * Buffers. Refusals 1 to 5 change none of the six, and neither does a source of fewer than two
+ * vertices. Otherwise the first 2n places of each are set: what is not drawn there is zero, and
+ * after refusal 6 all of it is. Places from 2n on never change, also where one column is longer
+ * than another.
+ *
+ * What a caller owes is what blidrosk_raw_offset asks of each list and of answer, save that xs, ys
+ * and bulges may share memory with each other, in part or in whole: one list of zeros can be ys and
+ * bulges. The six buffers and answer overlap neither each other nor a column of the source, so no
+ * job is done in place.
+ *
+ * blidrosk_part takes flags and origins of either layout. blidrosk_why takes a source in rows; what
+ * it tells of segment i holds for segment i of the same drawing in columns.
+ *
+ * Open (0, 0) (4, 0) (4, 1), offset 2, eps 1e-5: xs is {0, 4, 4}, ys {0, 0, 1}, bulges {0, 0, 0},
+ * and the room is 4. out_xs receives 0 4 2 2, out_ys 2 2 0 1, out_bulges 0 0 0 0, flags 0 1 0 0,
+ * indexes 1 0 0 0, origins 0 1 2 0 and answer 0 0 4 1 0.
+ */
+uint32_t blidrosk_raw_offset_columns(const double *xs, size_t xs_len, const double *ys,
+                                     size_t ys_len, const double *bulges, size_t bulges_len,
+                                     bool closed, double offset, double eps, double *out_xs,
+                                     size_t out_xs_len, double *out_ys, size_t out_ys_len,
+                                     double *out_bulges, size_t out_bulges_len, uint8_t *flags,
+                                     size_t flags_len, uint32_t *indexes, size_t indexes_len,
+                                     uint32_t *origins, size_t origins_len, uint32_t answer[5]);
+
+/*
+ * The same with pointed outer corners, as blidrosk_raw_offset_pointed draws them: it takes the
+ * ratio too, 3n stands for 2n in room and buffers, and for number 3 v + 2 stands for the ratio.
+ */
+uint32_t blidrosk_raw_offset_columns_pointed(
+    const double *xs, size_t xs_len, const double *ys, size_t ys_len, const double *bulges,
+    size_t bulges_len, bool closed, double offset, double eps, double ratio, double *out_xs,
+    size_t out_xs_len, double *out_ys, size_t out_ys_len, double *out_bulges, size_t out_bulges_len,
+    uint8_t *flags, size_t flags_len, uint32_t *indexes, size_t indexes_len, uint32_t *origins,
+    size_t origins_len, uint32_t answer[5]);
 
 /* Whether an origin is a connector's; otherwise it is a span's. */
 static inline bool blidrosk_origin_is_connector(uint32_t origin) { return origin % 2 == 1; }

@@ -53,6 +53,18 @@
 //! assert_eq!(side.reason, Reason::PointedConnector);
 //! ```
 //!
+//! A machine that keeps all x, all y and all bulges apart lends them as [`Columns`], and gets columns
+//! back; all else is the same.
+//!
+//! ```
+//! use blidrosk::{Columns, Drawing};
+//!
+//! let source = Columns { xs: [0.0, 4.0, 4.0], ys: [0.0, 0.0, 1.0], bulges: [0.0; 3] };
+//! let drawing = Drawing::offset_columns(&source, false, 2.0, 1e-5).expect("a good job");
+//! assert_eq!(drawing.vertices.xs, [0.0, 4.0, 2.0, 2.0]);
+//! assert_eq!(drawing.flags, [0, 1, 0]);
+//! ```
+//!
 //! # Nearly full circles and the tolerance
 //!
 //! An output segment that would end less than the tolerance from where it starts, in x and in y, is
@@ -75,6 +87,7 @@
 //! ```
 
 mod archive;
+mod columns;
 mod corners;
 mod origin;
 mod part;
@@ -84,6 +97,7 @@ mod why;
 use std::ops::Range;
 
 use archive::{Numbers, blidrosk_raw_offset, blidrosk_raw_offset_pointed};
+pub use columns::{Columns, raw_offset_columns, raw_offset_columns_with};
 pub use corners::Corners;
 pub use origin::Origin;
 pub use part::part;
@@ -96,7 +110,7 @@ pub const MOST_VERTICES: usize = 4096;
 /// What a job that is done has written.
 #[derive(Clone, Copy, Debug, PartialEq, Eq)]
 pub struct Drawn {
-    /// Count of vertices, three numbers each.
+    /// Count of vertices: three numbers each, or one in each of three columns.
     pub vertices: usize,
     /// Count of indexes, one for each invalid segment.
     pub indexes: usize,
@@ -234,9 +248,9 @@ pub const fn segments(vertices: usize, closed: bool) -> usize {
 
 /// A drawing in vectors of its own.
 #[derive(Clone, Debug, PartialEq)]
-pub struct Drawing {
-    /// Three numbers a vertex, as in a source.
-    pub vertices: Vec<f64>,
+pub struct Drawing<V = Vec<f64>> {
+    /// Laid out as in the source: three numbers a vertex, or three [`Columns`].
+    pub vertices: V,
     /// A byte for each segment: 1 where it is invalid.
     pub flags: Vec<u8>,
     /// The invalid segments, rising.
@@ -262,38 +276,20 @@ impl Drawing {
         eps: f64,
         corners: Corners,
     ) -> Result<Self, Refusal> {
-        // a longer source is refused before its room is looked at
-        let source_vertices = (source.len() / 3).min(MOST_VERTICES);
-        let places = corners.room(source_vertices, closed);
-        let mut vertices = vec![0.0; 3 * places];
-        let mut flags = vec![0; places];
-        let mut indexes = vec![0; places];
-        let mut origins = vec![0; places];
-        let drawn = raw_offset_with(
-            source,
+        with_room(
+            source.len() / 3,
             closed,
-            offset,
-            eps,
             corners,
-            &mut vertices,
-            &mut flags,
-            &mut indexes,
-            &mut origins,
-        )?;
-        vertices.truncate(3 * drawn.vertices);
-        flags.truncate(drawn.segments());
-        indexes.truncate(drawn.indexes);
-        origins.truncate(drawn.segments());
-        Ok(Drawing {
-            vertices,
-            flags,
-            indexes,
-            origins: origins.into_iter().map(Origin::from_code).collect(),
-            closed: drawn.closed,
-            source_segments: segments(source_vertices, closed),
-        })
+            |vertices: &mut Vec<f64>, flags, indexes, origins| {
+                raw_offset_with(
+                    source, closed, offset, eps, corners, vertices, flags, indexes, origins,
+                )
+            },
+        )
     }
+}
 
+impl<V> Drawing<V> {
     /// The segments that belong to a source segment: its span and the connector after it, or both
     /// connectors of a point, as far as they were drawn. The range is empty where nothing was; a
     /// segment that the source does not have is [`Refusal::NoSuchSourceSegment`].
@@ -320,4 +316,52 @@ impl Drawing {
             .collect();
         part(n, &self.flags, &codes, asked)
     }
+}
+
+/// How the vertices of a [`Drawing`] are laid out.
+trait Layout {
+    /// Room for so many vertices.
+    fn zeros(vertices: usize) -> Self;
+
+    /// The first so many are all there are.
+    fn keep(&mut self, vertices: usize);
+}
+
+impl Layout for Vec<f64> {
+    fn zeros(vertices: usize) -> Self {
+        vec![0.0; 3 * vertices]
+    }
+
+    fn keep(&mut self, vertices: usize) {
+        self.truncate(3 * vertices);
+    }
+}
+
+/// Lends a job the room that a source of so many vertices needs, and keeps what it draws.
+fn with_room<V: Layout>(
+    source_vertices: usize,
+    closed: bool,
+    corners: Corners,
+    job: impl FnOnce(&mut V, &mut [u8], &mut [u32], &mut [u32]) -> Answer,
+) -> Result<Drawing<V>, Refusal> {
+    // a longer source is refused before its room is looked at
+    let source_vertices = source_vertices.min(MOST_VERTICES);
+    let places = corners.room(source_vertices, closed);
+    let mut vertices = V::zeros(places);
+    let mut flags = vec![0; places];
+    let mut indexes = vec![0; places];
+    let mut origins = vec![0; places];
+    let drawn = job(&mut vertices, &mut flags, &mut indexes, &mut origins)?;
+    vertices.keep(drawn.vertices);
+    flags.truncate(drawn.segments());
+    indexes.truncate(drawn.indexes);
+    origins.truncate(drawn.segments());
+    Ok(Drawing {
+        vertices,
+        flags,
+        indexes,
+        origins: origins.into_iter().map(Origin::from_code).collect(),
+        closed: drawn.closed,
+        source_segments: segments(source_vertices, closed),
+    })
 }

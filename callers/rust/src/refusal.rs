@@ -8,8 +8,8 @@ use std::fmt;
 #[derive(Clone, Copy, Debug, PartialEq, Eq)]
 #[non_exhaustive]
 pub enum Refusal {
-    /// The source's length is no multiple of 3; for [`part`](crate::part()), flags and origins differ
-    /// in number.
+    /// The source's length is no multiple of 3; two of its [`Columns`](crate::Columns) differ in
+    /// length; for [`part`](crate::part()), flags and origins differ in number.
     Ragged,
     /// The source has more than [`MOST_VERTICES`](crate::MOST_VERTICES) vertices.
     TooMany,
