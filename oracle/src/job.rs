@@ -5,7 +5,7 @@ mod drawn;
 
 use crate::polyline::internal::raw_pline_offset::{RawOffsetResult, create_raw_offset};
 use crate::polyline::{PlineSource, PlineVertex, Polyline};
-use crate::stage::{Answer, Job, Lent};
+use crate::stage::{Answer, Built, Job, Lent};
 use drawn::{Drawn, Draws};
 
 const MOST_VERTICES: usize = 4096;
@@ -24,6 +24,19 @@ pub fn job(job: &Job, lent: Lent) -> Answer {
 /// The same with nothing counted, which leaves zeros for the origins: for timing 000.
 pub fn plain_job(job: &Job, lent: Lent) -> Answer {
     job_on::<Polyline>(job, lent)
+}
+
+/// What 000 draws of a source that nothing refuses.
+pub(crate) fn built(source: &Polyline, offset: f64, eps: f64) -> Built {
+    let drawn = create_raw_offset::<_, _, Drawn>(source, offset, eps);
+    let indexes = drawn.invalid_segment_indexes.iter();
+    Built {
+        vertices: drawn.polyline.vertices().to_vec(),
+        indexes: indexes.map(|index| *index as u32).collect(),
+        origins: drawn.polyline.origins().to_vec(),
+        closed: drawn.polyline.is_closed(),
+        flags: drawn.invalid_segments,
+    }
 }
 
 fn job_on<P: Draws>(job: &Job, mut lent: Lent) -> Answer {

@@ -4,6 +4,7 @@
 //! `core` and `polyline` hold what 000 imports. They are written after 01 alone, and not after the
 //! proved code.
 
+pub mod columns;
 pub mod core;
 pub mod generate;
 #[cfg(with_000)]

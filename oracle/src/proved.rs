@@ -4,10 +4,12 @@
 #[path = "../../callers/rust/src/archive.rs"]
 mod archive;
 
+use crate::columns::{ColumnLent, Columns};
 use crate::part::{Output, PartAnswer};
 use crate::stage::{Answer, Job, Lent};
 use archive::{
-    blidrosk_part, blidrosk_raw_offset, blidrosk_raw_offset_pointed, blidrosk_why,
+    blidrosk_part, blidrosk_raw_offset, blidrosk_raw_offset_columns,
+    blidrosk_raw_offset_columns_pointed, blidrosk_raw_offset_pointed, blidrosk_why,
     blidrosk_why_pointed,
 };
 use std::array;
@@ -96,6 +98,63 @@ pub unsafe fn job_by(function: Function, job: &Job, lent: Lent) -> Answer {
         )
     };
     if number == answer[0] { answer } else { TORN }
+}
+
+/// Works one job in columns, in the job's mode. Its number comes back twice; where the two differ, or a place
+/// past the answer was written to, the answer is `TORN`.
+pub fn columns(job: &Columns, lent: ColumnLent) -> Answer {
+    let mut answer = [UNSET; 8];
+    let [xs, ys, bulges] = job.source();
+    let ColumnLent {
+        xs: out_xs,
+        ys: out_ys,
+        bulges: out_bulges,
+        flags,
+        indexes,
+        origins,
+    } = lent;
+    // The two functions differ in the ratio alone.
+    macro_rules! call {
+        ($function:ident $(, $ratio:expr)?) => {
+            // SAFETY: each pointer is lent with its own length, and five numbers have their places.
+            unsafe {
+                $function(
+                    xs.as_ptr(),
+                    xs.len(),
+                    ys.as_ptr(),
+                    ys.len(),
+                    bulges.as_ptr(),
+                    bulges.len(),
+                    job.closed,
+                    job.offset,
+                    job.eps,
+                    $($ratio,)?
+                    out_xs.as_mut_ptr(),
+                    out_xs.len(),
+                    out_ys.as_mut_ptr(),
+                    out_ys.len(),
+                    out_bulges.as_mut_ptr(),
+                    out_bulges.len(),
+                    flags.as_mut_ptr(),
+                    flags.len(),
+                    indexes.as_mut_ptr(),
+                    indexes.len(),
+                    origins.as_mut_ptr(),
+                    origins.len(),
+                    answer.as_mut_ptr().cast(),
+                )
+            }
+        };
+    }
+    let number = match job.ratio {
+        None => call!(blidrosk_raw_offset_columns),
+        Some(ratio) => call!(blidrosk_raw_offset_columns_pointed, ratio),
+    };
+    if answer[5..] == [UNSET; 3] && number == answer[0] {
+        array::from_fn(|i| answer[i])
+    } else {
+        TORN
+    }
 }
 
 /// The seven numbers of an answer, and both parameters by their bits.

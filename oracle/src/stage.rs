@@ -11,6 +11,18 @@ pub type Answer = [u32; 5];
 /// How many places there are for numbers, flags, indexes and origins.
 pub type Places = [usize; 4];
 
+/// What is drawn once nothing refuses a job, before it goes into buffers of any layout. It may hold a
+/// number that is not finite.
+#[derive(Debug, Clone)]
+pub struct Built {
+    pub vertices: Vec<PlineVertex>,
+    /// One for each segment, as are the origins.
+    pub flags: Vec<bool>,
+    pub indexes: Vec<u32>,
+    pub origins: Vec<u32>,
+    pub closed: bool,
+}
+
 /// Whatever works a job into the buffers that it is lent.
 pub type Stage = fn(&Job, Lent) -> Answer;
 
@@ -31,7 +43,7 @@ pub struct Job {
 pub const SPARE: usize = 1;
 
 /// How many places past those that are lent the comparison looks at.
-const BEYOND: usize = 3;
+pub const BEYOND: usize = 3;
 
 impl Job {
     /// A job of the round mode that is lent the places it needs and `SPARE` more of each kind.
@@ -149,23 +161,16 @@ impl Job {
     /// and read again gets the same.
     pub fn before(&self) -> Before {
         let numbers = [self.offset, self.eps];
-        let numbers = numbers.iter().chain(&self.source).chain(&self.ratio);
-        let mixed = numbers.fold(u64::from(self.closed), |mixed, number| {
-            (mixed.rotate_left(5) ^ number.to_bits()).wrapping_mul(0x9e37_79b9_7f4a_7c15)
-        });
-        Before::pattern((mixed >> 32) as usize % Before::PATTERNS)
+        Before::by(
+            self.closed,
+            numbers.iter().chain(&self.source).chain(&self.ratio),
+        )
     }
 
     pub fn run_over(&self, before: Before, places: Places, stage: Stage) -> Outcome {
         let mut buffers = Buffers::over(before, places);
         let answer = stage(self, buffers.lend(self.room));
-        Outcome {
-            answer,
-            vertices: buffers.vertices.into_iter().map(f64::to_bits).collect(),
-            flags: buffers.flags,
-            indexes: buffers.indexes,
-            origins: buffers.origins,
-        }
+        buffers.after(answer)
     }
 }
 
@@ -191,10 +196,10 @@ impl Lent<'_> {
 
 /// Places to lend.
 pub struct Buffers {
-    vertices: Vec<f64>,
-    flags: Vec<u8>,
-    indexes: Vec<u32>,
-    origins: Vec<u32>,
+    pub vertices: Vec<f64>,
+    pub flags: Vec<u8>,
+    pub indexes: Vec<u32>,
+    pub origins: Vec<u32>,
 }
 
 impl Buffers {
@@ -209,6 +214,17 @@ impl Buffers {
             flags: (0..flags).map(|place| before.flag(place)).collect(),
             indexes: (0..indexes).map(|place| before.index(place)).collect(),
             origins: (0..origins).map(|place| before.origin(place)).collect(),
+        }
+    }
+
+    /// An answer, and what they hold then.
+    pub fn after(self, answer: Answer) -> Outcome {
+        Outcome {
+            answer,
+            vertices: self.vertices.into_iter().map(f64::to_bits).collect(),
+            flags: self.flags,
+            indexes: self.indexes,
+            origins: self.origins,
         }
     }
 

@@ -7,9 +7,13 @@
 //! outcome: `number place vertices indexes closed`, the drawn
 //! numbers, one flag for each output segment, the indexes, one origin for each output segment.
 //!
+//! A job in columns: `columns`, the six numbers of places lent, closed, offset, eps and the ratio as above, where
+//! x, y and bulges start in a list and how many of each there are, then the list.
+//!
 //! A question for a part: `part n source flags`, the last being how many there are, then the flags and
 //! the origins.
 
+use crate::columns::{ColumnPlaces, Columns};
 use crate::part::Output;
 use crate::stage::{Job, Outcome};
 use crate::traced::Rule;
@@ -37,20 +41,75 @@ pub fn any_job_row(job: &Job) -> String {
 }
 
 fn row_of(job: &Job, count: usize) -> String {
-    let mut row = format!("{} {} {}", mode(job), exact(job.offset), exact(job.eps));
-    if let Some(ratio) = job.ratio {
-        write!(row, " {}", exact(ratio)).expect("a string takes all");
-    }
-    write!(row, " {count}").expect("a string takes all");
-    for number in &job.source {
+    let mode = (job.closed, job.ratio);
+    let settings = settings_row(mode, job.offset, job.eps);
+    let mut row = format!("{settings} {count}");
+    push_numbers(&mut row, &job.source);
+    row
+}
+
+/// Closed mark and mode, offset, ε, and the ratio if there is one.
+fn settings_row((closed, ratio): (bool, Option<f64>), offset: f64, eps: f64) -> String {
+    let mode = mode_of(closed, ratio);
+    let mut row = format!("{mode} {} {}", exact(offset), exact(eps));
+    push_numbers(&mut row, ratio.as_slice());
+    row
+}
+
+fn push_numbers(row: &mut String, numbers: &[f64]) {
+    for number in numbers {
         write!(row, " {}", exact(*number)).expect("a string takes all");
     }
-    row
 }
 
 /// 1 of a closed job, and 2 more of the pointed mode.
 pub fn mode(job: &Job) -> u8 {
-    u8::from(job.closed) + 2 * u8::from(job.ratio.is_some())
+    mode_of(job.closed, job.ratio)
+}
+
+fn mode_of(closed: bool, ratio: Option<f64>) -> u8 {
+    u8::from(closed) + 2 * u8::from(ratio.is_some())
+}
+
+/// The row of a job in columns, lent so many places.
+pub fn columns_row(job: &Columns, room: ColumnPlaces) -> String {
+    let settings = settings_row((job.closed, job.ratio), job.offset, job.eps);
+    let at = job.at.each_ref().map(|at| [at.start, at.len()]);
+    let words = |numbers: &[usize]| {
+        let words: Vec<String> = numbers.iter().map(usize::to_string).collect();
+        words.join(" ")
+    };
+    let (room, at) = (words(&room), words(at.as_flattened()));
+    let mut row = format!("columns {room} {settings} {at}");
+    push_numbers(&mut row, &job.numbers);
+    row
+}
+
+/// Reads what `columns_row` writes.
+pub fn read_columns(row: &str) -> Option<(Columns, ColumnPlaces)> {
+    let mut words = row.strip_prefix("columns ")?.split(' ');
+    let mut room = [0; 6];
+    for places in &mut room {
+        *places = words.next()?.parse().ok()?;
+    }
+    let (closed, offset, eps, ratio) = read_settings(&mut words)?;
+    let mut at = [0..0, 0..0, 0..0];
+    for range in &mut at {
+        let start: usize = words.next()?.parse().ok()?;
+        let length: usize = words.next()?.parse().ok()?;
+        *range = start..start.checked_add(length)?;
+    }
+    let numbers: Vec<f64> = words.map(number).collect::<Option<_>>()?;
+    let inside = at.iter().all(|range| range.end <= numbers.len());
+    let job = Columns {
+        numbers,
+        at,
+        closed,
+        offset,
+        eps,
+        ratio,
+    };
+    inside.then_some((job, room))
 }
 
 pub fn outcome_row(outcome: &Outcome) -> String {
@@ -133,6 +192,20 @@ pub fn read_job(row: &str) -> Option<Job> {
 
 /// Reads a job whose row says how many times `each` numbers there are.
 fn read_words<'a>(words: &mut impl Iterator<Item = &'a str>, each: usize) -> Option<Job> {
+    let (closed, offset, eps, ratio) = read_settings(words)?;
+    let count: usize = words.next()?.parse().ok()?;
+    let source: Vec<f64> = words.map(number).collect::<Option<_>>()?;
+    let job = (source.len() == each * count).then(|| Job::new(closed, offset, eps, source))?;
+    Some(match ratio {
+        Some(ratio) => job.pointed(ratio),
+        None => job,
+    })
+}
+
+/// Reads what `settings_row` writes.
+fn read_settings<'a>(
+    words: &mut impl Iterator<Item = &'a str>,
+) -> Option<(bool, f64, f64, Option<f64>)> {
     let (closed, pointed) = match words.next()? {
         "0" => (false, false),
         "1" => (true, false),
@@ -147,13 +220,7 @@ fn read_words<'a>(words: &mut impl Iterator<Item = &'a str>, each: usize) -> Opt
     } else {
         None
     };
-    let count: usize = words.next()?.parse().ok()?;
-    let source: Vec<f64> = words.map(number).collect::<Option<_>>()?;
-    let job = (source.len() == each * count).then(|| Job::new(closed, offset, eps, source))?;
-    Some(match ratio {
-        Some(ratio) => job.pointed(ratio),
-        None => job,
-    })
+    Some((closed, offset, eps, ratio))
 }
 
 fn number(word: &str) -> Option<f64> {

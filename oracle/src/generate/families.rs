@@ -477,15 +477,20 @@ fn odd(random: &mut Random) -> Job {
     job
 }
 
-/// The job with a NaN for one of its numbers: of either sign, signalling or not, with any payload.
+/// The job with a NaN for one of its numbers.
 pub fn with_a_nan(random: &mut Random, job: &Job) -> Job {
     let slot = random.below(job.numbers());
+    job.with_number(slot, nan(random))
+}
+
+/// A NaN of either sign, signalling or not, with any payload.
+pub(super) fn nan(random: &mut Random) -> f64 {
     let any = random.bits() >> 13;
     let payload = random.pick(&[1, (1 << 51) - 1, any]);
     let quiet = random.one_in(2) || payload == 0;
     let sign = random.one_in(2);
     let top = u64::from(sign) << 63 | 0x7ff << 52 | u64::from(quiet) << 51;
-    job.with_number(slot, f64::from_bits(top | payload))
+    f64::from_bits(top | payload)
 }
 
 /// A good job with something broken.

@@ -1,6 +1,7 @@
 //! Jobs to compare on: all short ones over small grids, random ones of several families, and
 //! jobs steered to the doubles between which a test turns.
 
+pub mod columns;
 mod families;
 mod grid;
 mod keyholes;

@@ -48,6 +48,19 @@ impl Before {
         }
     }
 
+    /// A pattern by the bits of a job.
+    pub fn by<'a>(closed: bool, numbers: impl Iterator<Item = &'a f64>) -> Self {
+        let mixed = numbers.fold(u64::from(closed), |mixed, number| {
+            (mixed.rotate_left(5) ^ number.to_bits()).wrapping_mul(0x9e37_79b9_7f4a_7c15)
+        });
+        Self::pattern((mixed >> 32) as usize % Self::PATTERNS)
+    }
+
+    /// Another pattern, so many after this one.
+    pub fn after(self, count: usize) -> Self {
+        Self::pattern((self.which() + count) % Self::PATTERNS)
+    }
+
     /// Which pattern this is.
     pub fn which(self) -> usize {
         self.start + self.step * NUMBERS.len()

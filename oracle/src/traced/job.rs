@@ -5,8 +5,8 @@ use super::moves::{Drawing, Walk};
 use super::segments::Segment;
 use super::why::{Origin, Reason, Why, Whys};
 use super::{Event, Site, Trace};
-use crate::polyline::{PlineSource, Polyline};
-use crate::stage::{Answer, Job, Lent};
+use crate::polyline::{PlineSource, PlineVertex, Polyline};
+use crate::stage::{Answer, Built, Job, Lent};
 
 /// What a job comes to, before it is written into the lent buffers.
 enum Result {
@@ -45,6 +45,28 @@ pub fn whys(job: &Job) -> Whys {
     match Trace::new().result(&job.lent_enough()) {
         Result::Refused(number, place) => Err([number, place as u32]),
         Result::Drawn(drawing) => Ok(drawing.whys),
+    }
+}
+
+/// What the traced walk draws of a source that nothing refuses.
+pub fn built(source: Polyline, offset: f64, eps: f64, ratio: Option<f64>) -> Built {
+    let set = Setting { offset, eps, ratio };
+    let mut trace = Trace::new();
+    let drawing = match trace.work(source, set) {
+        Some(work) => trace.drawing(&work),
+        None => Drawing::empty(),
+    };
+    let vertices = drawing.vertices.iter();
+    let flags: Vec<bool> = drawing.flags().collect();
+    let raised = (0..).zip(&flags).filter(|(_, flag)| **flag);
+    Built {
+        vertices: vertices
+            .map(|[x, y, bulge]| PlineVertex::new(*x, *y, *bulge))
+            .collect(),
+        indexes: raised.map(|(index, _)| index).collect(),
+        origins: drawing.origins().map(Origin::code).collect(),
+        closed: drawing.closed,
+        flags,
     }
 }
 
@@ -159,26 +181,36 @@ impl Trace {
                 return Err(Result::Refused(5, i));
             }
         }
-        let segments = self.segments(&source, job.offset);
-        if segments.len() == 1 && segments[0].is_collapsed() {
-            self.mark(Event::LoneCollapsed);
-            return Err(Result::Drawn(Drawing::empty()));
-        }
         let set = Setting {
             offset: job.offset,
             eps: job.eps,
             ratio: job.ratio,
         };
-        Ok(Work {
+        let work = self.work(source, set);
+        work.ok_or(Result::Drawn(Drawing::empty()))
+    }
+
+    /// What there is to be walked: nothing of a lone collapsed arc.
+    fn work(&mut self, source: Polyline, set: Setting) -> Option<Work> {
+        let segments = self.segments(&source, set.offset);
+        if segments.len() == 1 && segments[0].is_collapsed() {
+            self.mark(Event::LoneCollapsed);
+            return None;
+        }
+        Some(Work {
             source,
             set,
             segments,
         })
     }
 
-    fn drawn(&mut self, work: &Work) -> Result {
+    fn drawing(&mut self, work: &Work) -> Drawing {
         let walk = self.walk(work.set, &work.source, &work.segments);
-        let drawing = self.draw(work.set, &walk, work.source.is_closed);
+        self.draw(work.set, &walk, work.source.is_closed)
+    }
+
+    fn drawn(&mut self, work: &Work) -> Result {
+        let drawing = self.drawing(work);
         for number in drawing.vertices.as_flattened() {
             if !self.ask(Site::Finite, number.is_finite()) {
                 return Result::Refused(6, 0);

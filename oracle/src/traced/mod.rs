@@ -18,7 +18,7 @@ mod sites;
 mod tip;
 mod why;
 
-pub use job::{job, stage, whys};
+pub use job::{built, job, stage, whys};
 pub use rules::{Rule, RuleTable};
 pub use sites::{EXPECTED, Event, POINTED, Pair, Site};
 pub use why::{Origin, Reason, Told, Why, Whys, told, why};

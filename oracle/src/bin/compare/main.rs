@@ -22,7 +22,13 @@
 //! - `compare pointed SEED RANDOM STEERED` runs jobs of the pointed mode, 02's 2026-13, on the proved code
 //!   and on the traced job, with what is told of each output segment and each source segment's part.
 //! - `compare pointed` does so for the jobs that standard input holds, a row each.
+//! - `compare columns SEED RANDOM STEERED` runs jobs of both modes in columns, 02's 2026-08, on the proved code
+//!   and on 000 or the traced walk by the request's words, and in rows; with unequal columns, bad numbers in
+//!   any of them, and buffers of any lengths.
+//! - `compare columns` does so for the jobs, and for the calls, that standard input holds.
 
+#[cfg(all(feature = "proved", with_000))]
+mod columns;
 #[cfg(with_000)]
 mod cover;
 #[cfg(with_000)]
@@ -65,7 +71,8 @@ fn main() {
             eprintln!(
                 "usage: compare [cover] SEED RANDOM STEERED | bulk SEED JOBS | keyholes SEED JOBS \
                  | layers SEED COUNT | rules [SEED RANDOM STEERED] | why [SEED RANDOM STEERED] \
-                 | parts [SEED RANDOM STEERED] | pointed [SEED RANDOM STEERED] | rows"
+                 | parts [SEED RANDOM STEERED] | pointed [SEED RANDOM STEERED] \
+                 | columns [SEED RANDOM STEERED] | rows"
             );
             exit(2);
         }
@@ -114,6 +121,10 @@ fn run_jobs(mode: &str, numbers: &[u64]) -> Option<bool> {
         ("pointed", [seed, random, steered]) => Some(pointed::compare(*seed, *random, *steered)),
         #[cfg(feature = "proved")]
         ("pointed", []) => Some(pointed::rows()),
+        #[cfg(feature = "proved")]
+        ("columns", [seed, random, steered]) => Some(columns::compare(*seed, *random, *steered)),
+        #[cfg(feature = "proved")]
+        ("columns", []) => Some(columns::rows()),
         _ => None,
     }
 }

@@ -30,10 +30,10 @@ const MOST_ASKED: usize = 64;
 const LAST_REFUSAL: usize = 13;
 
 /// Jobs for each settled point and each branch.
-const SAMPLES: &str = include_str!("../samples/pointed.txt");
+pub const SAMPLES: &str = include_str!("../samples/pointed.txt");
 
 /// The ratios that the jobs of the grid get by turns.
-const RATIOS: [f64; 4] = [1.0, std::f64::consts::SQRT_2, 2.0, 10.0];
+pub const RATIOS: [f64; 4] = [1.0, std::f64::consts::SQRT_2, 2.0, 10.0];
 
 /// One family for each buffer that is lent one place too few.
 const SHORT: [&str; 4] = [
@@ -113,7 +113,7 @@ pub fn rows() -> bool {
 }
 
 /// Drawings of so many vertices that turn to one side, offset to the other: open and closed, and a copy.
-fn turning(v: usize) -> [Job; 3] {
+pub fn turning(v: usize) -> [Job; 3] {
     let sides = v.max(3) as f64;
     let vertex = |i: usize| {
         let (sin, cos) = (std::f64::consts::TAU * i as f64 / sides).sin_cos();

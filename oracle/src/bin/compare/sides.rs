@@ -36,12 +36,69 @@ const SHOWN: u64 = 10;
 /// The numbers of 01 §1: done, and six refusals.
 const NUMBERS: usize = 7;
 
+/// For each family, how many jobs were answered with each number.
+#[derive(Default)]
+pub struct Families(Vec<(&'static str, [u64; NUMBERS])>);
+
+impl Families {
+    pub fn count(&mut self, family: &'static str, number: usize) {
+        if let Some(known) = self.0.iter_mut().find(|known| known.0 == family) {
+            known.1[number] += 1;
+        } else {
+            let mut counts = [0; NUMBERS];
+            counts[number] = 1;
+            self.0.push((family, counts));
+        }
+    }
+
+    /// How many of a family were answered with a number.
+    #[cfg(feature = "proved")]
+    pub fn of(&self, family: &str, number: usize) -> u64 {
+        let known = self.0.iter().find(|known| known.0 == family);
+        known.map_or(0, |known| known.1[number])
+    }
+
+    /// How many of all families were answered with each number.
+    pub fn all(&self) -> [u64; NUMBERS] {
+        let mut all = [0; NUMBERS];
+        for (_, counts) in &self.0 {
+            for (sum, count) in all.iter_mut().zip(counts) {
+                *sum += count;
+            }
+        }
+        all
+    }
+
+    pub fn print(&self, what: &str) {
+        println!("{what}: in all; answered 0, 1, .. 6");
+        for (name, counts) in &self.0 {
+            print_counts(name, counts);
+        }
+        print_counts("all", &self.all());
+    }
+}
+
+/// For each number, which patterns the buffers held before a job that it answers.
+#[derive(Default)]
+pub struct Patterns([[bool; Before::PATTERNS]; NUMBERS]);
+
+impl Patterns {
+    pub fn count(&mut self, before: Before, number: usize) {
+        self.0[number][before.which()] = true;
+    }
+
+    pub fn print(&self) {
+        let lent = self.0.map(|some| some.iter().filter(|l| **l).count());
+        let lent = lent.map(|count| format!(" {count}")).concat();
+        let of = Before::PATTERNS;
+        println!("patterns lent, of {of}, to jobs answered 0, 1, .. 6:{lent}");
+    }
+}
+
 #[derive(Default)]
 pub struct Tally {
-    /// For each family, how many jobs were answered with each number.
-    families: Vec<(&'static str, [u64; NUMBERS])>,
-    /// For each number, which patterns the buffers held before a job that it answers.
-    lent: [[bool; Before::PATTERNS]; NUMBERS],
+    families: Families,
+    lent: Patterns,
     newly: Counts,
     pub jobs: u64,
     pub differing: u64,
@@ -70,9 +127,10 @@ impl Tally {
         let (by, stage) = reference;
         let expected = job.run_compared(stage);
         let number = expected.answer[0] as usize;
-        self.count(family, number);
+        self.jobs += 1;
+        self.families.count(family, number);
         self.newly.count(job, &expected.answer);
-        self.lent[number][job.before().which()] = true;
+        self.lent.count(job.before(), number);
         if !expected.keeps(job, job.before()) {
             let what = format!("{by} changes a place that stays");
             self.differ(&what, job, (by, &expected), &expected);
@@ -93,31 +151,9 @@ impl Tally {
         }
     }
 
-    fn count(&mut self, family: &'static str, number: usize) {
-        self.jobs += 1;
-        if let Some(known) = self.families.iter_mut().find(|known| known.0 == family) {
-            known.1[number] += 1;
-        } else {
-            let mut counts = [0; NUMBERS];
-            counts[number] = 1;
-            self.families.push((family, counts));
-        }
-    }
-
     pub fn print_families(&self) {
-        let mut all = [0; NUMBERS];
-        println!("jobs by family: in all; answered 0, 1, .. 6");
-        for (name, counts) in &self.families {
-            print_counts(name, counts);
-            for (sum, count) in all.iter_mut().zip(counts) {
-                *sum += count;
-            }
-        }
-        print_counts("all", &all);
-        let lent = self.lent.map(|some| some.iter().filter(|l| **l).count());
-        let lent = lent.map(|count| format!(" {count}")).concat();
-        let of = Before::PATTERNS;
-        println!("patterns lent, of {of}, to jobs answered 0, 1, .. 6:{lent}");
+        self.families.print("jobs by family");
+        self.lent.print();
     }
 
     pub fn print_newly(&self) {
