@@ -1,7 +1,8 @@
 //! Times one piece of work beside another on every drawing, in one run.
 //!
 //! In each turn both work one right after the other, by turns the one and the other first; a time is
-//! the median over the turns, in microseconds, and a ratio the median of the turns' own.
+//! the median over the turns, in microseconds, and a ratio the median of the turns' own. `quiet` is that
+//! ratio over the tenth of the turns that took the least time in all.
 use crate::drawings::{Kind, Shape, KINDS};
 use std::env;
 use std::process::exit;
@@ -12,8 +13,9 @@ const SIZES: [usize; 4] = [4, 16, 64, 4096];
 /// The vertices that a turn has on each side: a smaller job is worked again and again.
 const TURN: usize = 4096;
 
-/// The medians of a job's turns: of the one, of the other, and of the other's time by the one's.
-pub type Figures = [f64; 3];
+/// The medians of a job's turns: of the one, of the other, and of the other's time by the one's; this last
+/// once more over the quiet turns.
+pub type Figures = [f64; 4];
 
 /// A drawing with v vertices, offset to its left (1) or to its right (-1).
 #[derive(Clone, Copy)]
@@ -28,7 +30,7 @@ pub struct Drawn {
 impl Drawn {
     pub fn time(self, mut one: impl FnMut(), mut other: impl FnMut()) -> Figures {
         let times = TURN.div_ceil(self.v);
-        let mut took = [const { Vec::new() }; 3];
+        let mut took = Vec::new();
         for turn in 0..self.turns {
             let (a, b);
             if turn % 2 == 0 {
@@ -38,11 +40,17 @@ impl Drawn {
                 b = timed(times, &mut other);
                 a = timed(times, &mut one);
             }
-            for (list, time) in took.iter_mut().zip([a, b, b / a]) {
-                list.push(time);
-            }
+            took.push([a, b]);
         }
-        took.map(median)
+        took.sort_by(|[a, b], [c, d]| (a + b).total_cmp(&(c + d)));
+        let quiet = &took[..took.len().div_ceil(10)];
+        let ratio = |[a, b]: &[f64; 2]| b / a;
+        [
+            median(&took, |[a, _]| *a),
+            median(&took, |[_, b]| *b),
+            median(&took, ratio),
+            median(quiet, ratio),
+        ]
     }
 }
 
@@ -58,7 +66,7 @@ pub fn table(program: &str, one: &str, other: &str, figures: impl Fn(Drawn) -> F
     };
     let [first, second] = [one, other].map(|name| format!("{name} us"));
     println!(
-        "kind      v {first:>11} {second:>11}   {other}/{one}, mean and worst of the drawings"
+        "kind      v {first:>11} {second:>11}   {other}/{one}, mean and worst of the drawings; quiet"
     );
     for kind in KINDS {
         for v in SIZES {
@@ -81,12 +89,17 @@ fn row((kind, shapes): Kind, v: usize, turns: usize, figures: impl Fn(Drawn) -> 
     });
     let figures: Vec<_> = drawn.map(figures).collect();
     let mean = |of: fn(&Figures) -> f64| figures.iter().map(of).sum::<f64>() / figures.len() as f64;
-    let worst = figures.iter().map(|[.., ratio]| *ratio).fold(0.0, f64::max);
+    let worst = |of: fn(&Figures) -> f64| figures.iter().map(of).fold(0.0, f64::max);
+    let ratio: fn(&Figures) -> f64 = |[_, _, ratio, _]| *ratio;
+    let quiet: fn(&Figures) -> f64 = |[.., quiet]| *quiet;
     println!(
-        "{kind:6} {v:>4} {:>11.2} {:>11.2} {:>12.2} {worst:>6.2}",
+        "{kind:6} {v:>4} {:>11.2} {:>11.2} {:>12.2} {:>6.2} {:>12.2} {:>6.2}",
         mean(|[one, ..]| *one),
-        mean(|[_, other, _]| *other),
-        mean(|[.., ratio]| *ratio),
+        mean(|[_, other, ..]| *other),
+        mean(ratio),
+        worst(ratio),
+        mean(quiet),
+        worst(quiet),
     );
 }
 
@@ -98,7 +111,8 @@ fn timed(times: usize, work: &mut impl FnMut()) -> f64 {
     start.elapsed().as_secs_f64() * 1e6 / times as f64
 }
 
-fn median(mut times: Vec<f64>) -> f64 {
-    times.sort_by(f64::total_cmp);
-    times[times.len() / 2]
+fn median(turns: &[[f64; 2]], of: impl Fn(&[f64; 2]) -> f64) -> f64 {
+    let mut numbers: Vec<_> = turns.iter().map(of).collect();
+    numbers.sort_by(f64::total_cmp);
+    numbers[numbers.len() / 2]
 }
