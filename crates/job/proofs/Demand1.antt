@@ -8,7 +8,7 @@ use lib.Dec.{leb}
 use lib.ListN.{getD, List·getD-eq-default}
 use Rattle.floats.proofs.Choice.{yes}
 use Rattle.refusals.specs.declared.Refusal.{Refusal}
-use Rattle.refusals.specs.declared.Refusal.the-variants.{Ragged, TooMany, BadNumber, NoRoom, Repeated, NotFinite, Malformed, NoSuchSegment, NoSuchSourceSegment}
+use Rattle.refusals.specs.declared.Refusal.the-variants.{Ragged, TooMany, BadNumber, NoRoom, Repeated, NotFinite, Malformed, NoSuchSegment, NoOpenJob, NoSuchSourceSegment}
 use Rattle.refusals.specs.Table.{numberOf, placeOf}
 use Rattle.refusals.proofs.First.{by-test}
 use Rattle.moves.specs.Drawing.{nothing, emptyResult}
@@ -32,6 +32,7 @@ placed-at (Repeated k) p q = absurd (q refl)
 placed-at NotFinite p q = refl
 placed-at Malformed p q = refl
 placed-at NoSuchSegment p q = refl
+placed-at NoOpenJob p q = refl
 placed-at NoSuchSourceSegment p q = refl
 
 no-place : (a : RawOffsetAnswer) → (number a ≡ 3 → ⊥) → (number a ≡ 5 → ⊥) → place a ≡ 0

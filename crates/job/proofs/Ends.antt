@@ -46,11 +46,11 @@ use Rattle.job.proofs.Ways.{found, not-found, unchanged, all-fit, ragge
 
 -- ---- the moves of a segment by the mode, and the room, which is small
 
-moves-if : (c : Corners) → movesIf (arePointed c) ≡ movesASegment c
+pub moves-if : (c : Corners) → movesIf (arePointed c) ≡ movesASegment c
 moves-if Round = refl
 moves-if (Pointed ratio) = refl
 
-moves-most : (pointed : Bool) → movesIf pointed ≤ 3
+pub moves-most : (pointed : Bool) → movesIf pointed ≤ 3
 moves-most true = omega arith
 moves-most false = omega arith
 

@@ -71,7 +71,7 @@ pub fn hand(answer: RawOffsetAnswer, five: &mut [u32; 5]) -> u32
 const MOST_VERTICES: usize = 4096;
 
 // A span and its connectors: two in the pointed mode.
-fn moves_a_segment(pointed: bool) -> usize
+pub fn moves_a_segment(pointed: bool) -> usize
     ensures { λ r. ⌜ r ≡ movesIf pointed ⌝ }
 {
     if pointed {
@@ -271,7 +271,7 @@ fn offset_drawing(
     )
 }
 
-fn has_room(room: usize, vertices: usize, flags: usize, indexes: usize, origins: usize) -> bool
+pub fn has_room(room: usize, vertices: usize, flags: usize, indexes: usize, origins: usize) -> bool
     ensures { λ r. ⌜ r ≡ (leb room vertices and (leb room flags and (leb room indexes and leb room origins))) ⌝ }
 {
     room <= vertices && (room <= flags && (room <= indexes && room <= origins))

@@ -36,7 +36,7 @@ arc-seen : (a : CarriedArc) (s : Float) → startAngle (seenArc s a) ≡ startAn
 arc-seen a s h =
     ap (λ (φ : Float). record { start = a .start; end = a .end; center = a .center; radius = a .radius; «start_angle» = φ; sweep = a .sweep }) h ∙ arc-unseen a
 
-seg-unseen : (g : CarriedSeg) → seenSeg notSeen g ≡ fullSeg g
+pub seg-unseen : (g : CarriedSeg) → seenSeg notSeen g ≡ fullSeg g
 seg-unseen (Line l) = refl
 seg-unseen (Arc a) = ap Full.Arc (arc-unseen a)
 seg-unseen (Collapsed a) = refl

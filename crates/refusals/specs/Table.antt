@@ -1,7 +1,7 @@
 -- The table of refusals: 01's number and place for each (01 §1; §5 for the program's own; 02 from 8 on). Definitions only.
 use Prim.Native.Nat.{ℕ}
 use Rattle.refusals.specs.declared.Refusal.{Refusal}
-use Rattle.refusals.specs.declared.Refusal.the-variants.{Ragged, TooMany, BadNumber, NoRoom, Repeated, NotFinite, Malformed, NoSuchSegment, NoSuchSourceSegment}
+use Rattle.refusals.specs.declared.Refusal.the-variants.{Ragged, TooMany, BadNumber, NoRoom, Repeated, NotFinite, Malformed, NoSuchSegment, NoOpenJob, NoSuchSourceSegment}
 
 abbrev pub numberOf : Refusal → ℕ
 numberOf Ragged = 1
@@ -12,6 +12,7 @@ numberOf (Repeated k) = 5
 numberOf NotFinite = 6
 numberOf Malformed = 7
 numberOf NoSuchSegment = 8
+numberOf NoOpenJob = 9
 numberOf NoSuchSourceSegment = 13
 
 abbrev pub placeOf : Refusal → ℕ
@@ -23,4 +24,5 @@ placeOf (Repeated k) = k
 placeOf NotFinite = 0
 placeOf Malformed = 0
 placeOf NoSuchSegment = 0
+placeOf NoOpenJob = 0
 placeOf NoSuchSourceSegment = 0

@@ -10,7 +10,7 @@ use lib.ListN.{length, getD, take, replicate}
 use Rattle.floats.specs.Choice.{when_give_else_}
 use Rattle.floats.proofs.Choice.{no}
 use Rattle.segments.specs.declared.Corners.{Corners}
-use Rattle.refusals.specs.declared.Refusal.the-variants.{Ragged, TooMany, BadNumber, NoRoom, Repeated, NotFinite, Malformed, NoSuchSegment, NoSuchSourceSegment}
+use Rattle.refusals.specs.declared.Refusal.the-variants.{Ragged, TooMany, BadNumber, NoRoom, Repeated, NotFinite, Malformed, NoSuchSegment, NoOpenJob, NoSuchSourceSegment}
 use Rattle.refusals.specs.Table.{numberOf, placeOf}
 use Rattle.moves.specs.declared.RawOffsetResult.{RawOffsetResult}
 use Rattle.moves.proofs.Origins.{origins-length}
@@ -90,6 +90,7 @@ module _ (asked : Asked) where
   digit (Refused NotFinite) b h = refl
   digit (Refused Malformed) b h = refl
   digit (Refused NoSuchSegment) b h = refl
+  digit (Refused NoOpenJob) b h = absurd (omega arith)
   digit (Refused NoSuchSourceSegment) b h = absurd (omega arith)
 
   module _ (form : Form) (bytes : List ℕ) where

@@ -333,7 +333,7 @@ joined-padded true room vs h fits =
     rw (a, b, c)
 joined-padded false room vs h fits = ap rows (row-padded room vs (h .made) fits (getD (h .beyond) 0 []))
 
-lent-shown : (c : Bool) (xs ys bs xs′ ys′ bs′ : List Float) (room : ℕ) (vs : List PlineVertex) → room ≤ length (heldBy c xs ys bs .made)
+pub lent-shown : (c : Bool) (xs ys bs xs′ ys′ bs′ : List Float) (room : ℕ) (vs : List PlineVertex) → room ≤ length (heldBy c xs ys bs .made)
     → heldBy c xs′ ys′ bs′ ≡ making (padded blank room vs (heldBy c xs ys bs .made)) (heldBy c xs ys bs) → lentBy c xs′ ys′ bs′ ≡ laidIn room vs (lentBy c xs ys bs)
 lent-shown c xs ys bs xs′ ys′ bs′ room vs fits e =
     sym (joined-held c xs′ ys′ bs′) ∙ ap (joined c) e ∙ joined-padded c room vs (heldBy c xs ys bs) fits ∙ ap (laidIn room vs) (joined-held c xs ys bs)

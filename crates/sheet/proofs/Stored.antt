@@ -20,7 +20,7 @@ use Rattle.moves.specs.Drawing.{Drawing, corners, flagsOf, marks, mark, bit, or
 use Rattle.moves.specs.InnerSteps.{strokes, sure}
 use Rattle.moves.proofs.Laws.{bit-small}
 use Rattle.moves.proofs.Shapes.{path, path-fits}
-use Rattle.sheet.specs.InnerSteps.{Contents, contents, fitting, making, noPlaces, Reached, Laid, laid, stored, stores, over, overAt}
+use Rattle.sheet.specs.InnerSteps.{Contents, contents, fitting, making, noPlaces, Reached, Laid, laid, stored, stores, over, overAt, written}
 
 pub stores-append : (ss ts : List Stroke) (l : Laid) → stores (ss ++ ts) l ≡ stores ts (stores ss l)
 unfolding stores
@@ -87,10 +87,6 @@ stores-row n p (m ∷ ks) l =
     stores-row (suc n) (m .end) ks _ ∙ rw (e, f, x, c, o)
 
 -- ---- and from the first places on
-
--- the lists of a drawing, written over the buffers
-abbrev pub written : Drawing → Contents → Contents
-written d old = contents (overAt (d .vertices) (old .vertices)) (over (d .flags) (old .flags)) (over (d .indexes) (old .indexes)) (over (d .origins) (old .origins))
 
 -- with the places after it
 abbrev pub drawnOver : Vector2 → List Move → Contents → Laid

@@ -87,7 +87,7 @@ unfolding stores when_give_else_
 stores-last true s l = refl
 stores-last false s l = refl
 
-stores-room : (n : ℕ) (ss : List Stroke) (l : Laid) → Rooms (length ss + n) l → Rooms n (stores ss l)
+pub stores-room : (n : ℕ) (ss : List Stroke) (l : Laid) → Rooms (length ss + n) l → Rooms n (stores ss l)
 unfolding stores
 stores-room n [] l w = room-fewer (omega arith) w
 stores-room n (s ∷ ss) l w = stores-room n ss (stored s l) (stored-room (length ss + n) s l (room-fewer (omega arith) w))

@@ -40,10 +40,10 @@ use Rattle.sheet.specs.declared.Places.{Places}
 use Rattle.sheet.specs.declared.Sheet.{Sheet}
 use Rattle.sheet.specs.declared.Built.the-variants.{Done}
 use Rattle.sheet.specs.Buffers.{noOrigin}
-use Rattle.sheet.specs.InnerSteps.{Contents, fitting, blank, making, Held, showing, noPlaces, Reached, Laid, laid, putAt, stores, Trail, trail, advanced, advances, routed}
+use Rattle.sheet.specs.InnerSteps.{Contents, fitting, blank, making, Held, showing, noPlaces, Reached, Laid, laid, putAt, stores, Trail, trail, advanced, advances, routed, written}
 use Rattle.sheet.specs.InnerSteps.{Rooms, Alike, Ready, Drawable, over, overAt, cleared, wiped, Within, Lasts, closingMoves, finished, finishes, finishesOpen, lasts, closes, Entered, builtOf}
 use Rattle.sheet.proofs.Over.{over-set, cleared-after, cleared-whole}
-use Rattle.sheet.proofs.Stored.{stores-append, stores-counted, written, drawnOver, stores-drawn}
+use Rattle.sheet.proofs.Stored.{stores-append, stores-counted, drawnOver, stores-drawn}
 use Rattle.sheet.proofs.Products.{product-less, product-most}
 use Rattle.sheet.proofs.Storing.{strokes-few}
 use Rattle.sheet.proofs.Bulges.{swap}

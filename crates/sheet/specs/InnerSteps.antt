@@ -261,6 +261,10 @@ over xs old = xs ++ drop (length xs) old
 abbrev pub overAt : List PlineVertex → Held → Held
 overAt vs h = making (over vs (h .made)) h
 
+-- the lists of a drawing, written over the buffers
+abbrev pub written : Drawing → Contents → Contents
+written d old = contents (overAt (d .vertices) (old .vertices)) (over (d .flags) (old .flags)) (over (d .indexes) (old .indexes)) (over (d .origins) (old .origins))
+
 -- count places from `from` on set to z
 abbrev pub cleared {ℓ} : {A : Type ℓ} → A → ℕ → ℕ → List A → List A
 cleared z from count l = take from l ++ replicate count z ++ drop (from + count) l

@@ -67,7 +67,7 @@ impl Places {
 }
 
 // The three numbers of a vertex, at place k.
-fn put_vertex(
+pub fn put_vertex(
     columns: bool,
     outxs: &mut [f64],
     outys: &mut [f64],
@@ -138,7 +138,7 @@ fn put_origin(origins: &mut [u32], k: usize, origin: Origin)
 }
 
 // Stores a stroke, if it is drawn.
-fn store(
+pub fn store(
     columns: bool,
     outxs: &mut [f64],
     outys: &mut [f64],

@@ -7,7 +7,6 @@ ghost use Prim.Native.Nat.{_+_, _*_, _-_, _≤_, _<_};
 ghost use lib.Dec.{eqb, ltb};
 ghost use lib.ListN.{length};
 ghost use Rattle.floats.specs.Choice.{when_give_else_, _and_};
-ghost use Rattle.segments.specs.InnerSteps.{bulgeBy};
 ghost use Rattle.source.specs.Source.{rows, verticesOf, segmentsOf};
 ghost use Rattle.source.specs.InnerSteps.{nextOf};
 ghost use Rattle.moves.specs.declared.Origin.the-variants.{Span};
@@ -245,15 +244,6 @@ impl Note {
     }
 }
 
-fn bulge_by(curved: bool, sweep: f64) -> f64
-    ensures { λ r. ⌜ r ≡ bulgeBy curved sweep ⌝ }
-{
-    if curved {
-        return angles::bulge_from_angle(sweep);
-    }
-    0.0
-}
-
 // Where the next span starts: at the join just made, or, on an open walk's first segment, at its start.
 fn entry_after(
     leading: u32,
@@ -333,7 +323,7 @@ impl Asking {
         let turned = walk.turn(next, ahead, settings, corners.are_pointed());
         let boundary = turned.join;
         let connector = turned.connector;
-        let bulge = bulge_by(turned.curved, turned.sweep);
+        let bulge = segments::bulge_by(turned.curved, turned.sweep);
         let span = turned.span.bulging(bulge);
         let before = self.note();
         let half = before.step(leading, span, entry, boundary, eps, segment);

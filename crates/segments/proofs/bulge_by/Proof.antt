@@ -1,9 +1,9 @@
--- `why::bulge_by` meets its contract. Assumes nothing.
+-- `segments::bulge_by` meets its contract. Assumes nothing.
 use mathlib.Core.Path.{refl}
 use Rattle.floats.proofs.Choice.{yes, no}
 use Rattle.segments.specs.InnerSteps.{bulgeBy}
-use Rattle.why.proofs.bulge_by.Statement.{statement}
-use Rattle.why.proofs.bulge_by.Tie as tie
+use Rattle.segments.proofs.bulge_by.Statement.{statement}
+use Rattle.segments.proofs.bulge_by.Tie as tie
 
 returns : tie.Need-returns
 unfolding bulgeBy
