@@ -1,0 +1,4 @@
+pub mod Strokes
+pub mod Counts
+pub mod Reached
+pub mod Joined
