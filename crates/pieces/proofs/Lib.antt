@@ -1,0 +1,10 @@
+pub mod Records
+pub mod Stored
+pub mod Went
+pub mod Drawn
+pub mod Tested
+pub mod Last
+pub mod Handed
+pub mod Runs
+pub mod Passed
+pub mod Claim

@@ -1,0 +1,4 @@
+pub mod Calls
+pub mod Handed
+pub mod Claim
+pub mod InnerSteps
