@@ -6,6 +6,8 @@
 
 pub mod columns;
 pub mod core;
+#[cfg(with_000)]
+pub mod draws;
 pub mod generate;
 #[cfg(with_000)]
 mod job;

@@ -10,10 +10,16 @@
 //! A job in columns: `columns`, the six numbers of places lent, closed, offset, eps and the ratio as above, where
 //! x, y and bulges start in a list and how many of each there are, then the list.
 //!
+//! A script of calls for a drawn job: `script`, then for each call `start` with its mode, offset, eps and the ratio as
+//! above, `draw` or `end` with the four numbers of places lent, of a draw then how many numbers it gives and these,
+//! `copy`, or `garble` with a seed.
+//!
 //! A question for a part: `part n source flags`, the last being how many there are, then the flags and
 //! the origins.
 
 use crate::columns::{ColumnPlaces, Columns};
+#[cfg(with_000)]
+use crate::draws::{Call, Script, Settings};
 use crate::part::Output;
 use crate::stage::{Job, Outcome};
 use crate::traced::Rule;
@@ -112,6 +118,65 @@ pub fn read_columns(row: &str) -> Option<(Columns, ColumnPlaces)> {
     inside.then_some((job, room))
 }
 
+/// The row of a script.
+#[cfg(with_000)]
+pub fn script_row(script: &[Call]) -> String {
+    let mut row = "script".to_owned();
+    for call in script {
+        let places = call.room().map(|places| places.to_string()).join(" ");
+        let words = match call {
+            Call::Start(set) => {
+                let settings = settings_row((false, set.ratio), set.offset, set.eps);
+                format!("start {settings}")
+            }
+            Call::Draw(source, _) => format!("draw {places} {}", source.len()),
+            Call::End(_) => format!("end {places}"),
+            Call::Copy => "copy".to_owned(),
+            Call::Garble(seed) => format!("garble {seed}"),
+        };
+        write!(row, " {words}").expect("a string takes all");
+        push_numbers(&mut row, call.numbers());
+    }
+    row
+}
+
+/// Reads what `script_row` writes.
+#[cfg(with_000)]
+pub fn read_script(row: &str) -> Option<Script> {
+    let mut words = row.split(' ');
+    let mut script = Script::new();
+    if words.next()? != "script" {
+        return None;
+    }
+    while let Some(word) = words.next() {
+        script.push(match word {
+            "start" => {
+                let (_, offset, eps, ratio) = read_settings(&mut words)?;
+                Call::Start(Settings { offset, eps, ratio })
+            }
+            "draw" => {
+                let room = read_room(&mut words)?;
+                let count: usize = words.next()?.parse().ok()?;
+                let numbers: Option<Vec<f64>> = words.by_ref().take(count).map(number).collect();
+                Call::Draw(numbers.filter(|numbers| numbers.len() == count)?, room)
+            }
+            "end" => Call::End(read_room(&mut words)?),
+            "copy" => Call::Copy,
+            "garble" => Call::Garble(words.next()?.parse().ok()?),
+            _ => return None,
+        });
+    }
+    Some(script)
+}
+
+fn read_room<'a>(words: &mut impl Iterator<Item = &'a str>) -> Option<[usize; 4]> {
+    let mut room = [0; 4];
+    for places in &mut room {
+        *places = words.next()?.parse().ok()?;
+    }
+    Some(room)
+}
+
 pub fn outcome_row(outcome: &Outcome) -> String {
     let words = outcome.answer.map(|number| number.to_string());
     let mut row = words.join(" ");
@@ -182,10 +247,7 @@ pub fn read_job(row: &str) -> Option<Job> {
         return read_words(&mut row.split(' '), 3);
     };
     let mut words = rest.split(' ');
-    let mut room = [0; 4];
-    for places in &mut room {
-        *places = words.next()?.parse().ok()?;
-    }
+    let room = read_room(&mut words)?;
     let job = read_words(&mut words, 1)?;
     Some(Job { room, ..job })
 }

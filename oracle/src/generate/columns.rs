@@ -10,8 +10,20 @@ use std::ops::Range;
 /// The largest x, y and bulge.
 const LIMITS: [f64; 3] = [1e6, 1e6, 1e9];
 
+/// No tolerances.
+pub(super) const BAD_EPS: [f64; 5] = [1e-9_f64.next_down(), 0.01_f64.next_up(), f64::NAN, 0.0, 1.0];
+
+/// No ratios.
+pub(super) const BAD_RATIOS: [f64; 5] = [
+    1.0_f64.next_down(),
+    10.0_f64.next_up(),
+    f64::NAN,
+    -2.0,
+    f64::INFINITY,
+];
+
 /// A number outside ±`limit`: a NaN, an infinity, the next double or one far off.
-fn outside(random: &mut Random, limit: f64) -> f64 {
+pub(super) fn outside(random: &mut Random, limit: f64) -> f64 {
     match random.below(4) {
         0 => nan(random),
         1 => random.sign() * f64::INFINITY,
@@ -45,17 +57,10 @@ pub fn with_bad_settings(random: &mut Random, job: &Columns) -> Columns {
         job.offset = outside(random, 1e6);
     }
     if which & 2 != 0 || job.ratio.is_none() && which == 4 {
-        job.eps = random.pick(&[1e-9_f64.next_down(), 0.01_f64.next_up(), f64::NAN, 0.0, 1.0]);
+        job.eps = random.pick(&BAD_EPS);
     }
     if which & 4 != 0 {
-        let bad = [
-            1.0_f64.next_down(),
-            10.0_f64.next_up(),
-            f64::NAN,
-            -2.0,
-            f64::INFINITY,
-        ];
-        job.ratio = job.ratio.map(|_| random.pick(&bad));
+        job.ratio = job.ratio.map(|_| random.pick(&BAD_RATIOS));
     }
     job
 }

@@ -2,6 +2,8 @@
 //! jobs steered to the doubles between which a test turns.
 
 pub mod columns;
+#[cfg(with_000)]
+pub mod draws;
 mod families;
 mod grid;
 mod keyholes;

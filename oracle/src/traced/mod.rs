@@ -16,11 +16,13 @@ mod rules;
 mod segments;
 mod sites;
 mod tip;
+mod turns;
 mod why;
 
 pub use job::{built, job, stage, whys};
 pub use rules::{Rule, RuleTable};
 pub use sites::{EXPECTED, Event, POINTED, Pair, Site};
+pub use turns::{Stroke, Turns};
 pub use why::{Origin, Reason, Told, Why, Whys, told, why};
 
 /// A test, its answer, and how far the two numbers compared lie apart.

@@ -8,8 +8,8 @@ use crate::core::math::Vector2;
 use crate::polyline::{PlineSource, PlineVertex, Polyline};
 
 pub(super) struct Move {
-    end: Vector2,
-    bulge: f64,
+    pub end: Vector2,
+    pub bulge: f64,
     pub why: Why,
 }
 
@@ -22,26 +22,26 @@ pub(super) struct Walk {
 }
 
 /// Where a span starts or ends on its segment, and by which rule.
-#[derive(Copy, Clone)]
-struct SpanEnd {
+#[derive(Debug, Copy, Clone)]
+pub(super) struct SpanEnd {
     param: f64,
     rule: Option<Rule>,
 }
 
 impl SpanEnd {
     /// The end of a segment at which there is no join.
-    fn free(param: f64) -> Self {
+    pub fn free(param: f64) -> Self {
         Self { param, rule: None }
     }
 
-    fn before(join: &Join) -> Self {
+    pub fn before(join: &Join) -> Self {
         Self {
             param: join.end_param,
             rule: join.end_rule,
         }
     }
 
-    fn after(join: &Join) -> Self {
+    pub fn after(join: &Join) -> Self {
         Self {
             param: join.start_param,
             rule: join.start_rule,
@@ -87,7 +87,8 @@ impl Trace {
         for i in 0..last {
             let shared = source.at(i + 1).pos();
             let join = self.join(set, &segments[i], &segments[i + 1], shared);
-            moves.push(self.span(segments, i, [from, SpanEnd::before(&join)], join.end));
+            let ends = [from, SpanEnd::before(&join)];
+            moves.push(self.span(&segments[i], i, ends, join.end));
             moves.extend(connectors(i, &join));
             from = SpanEnd::after(&join);
             joins.push(join);
@@ -95,7 +96,8 @@ impl Trace {
         moves.extend(match closing {
             None => {
                 let end = segments[last].ends[1];
-                vec![self.span(segments, last, [from, SpanEnd::free(1.0)], end)]
+                let ends = [from, SpanEnd::free(1.0)];
+                vec![self.span(&segments[last], last, ends, end)]
             }
             Some(join) => self.closing(set, segments, from, &join),
         });
@@ -119,19 +121,19 @@ impl Trace {
         let sites = [Site::ClosingMeetsX, Site::ClosingMeetsY];
         if self.near(sites, join.end, join.start, set.eps) {
             self.mark(Event::ClosingSpan);
-            return vec![self.span(segments, last, ends, join.start)];
+            return vec![self.span(&segments[last], last, ends, join.start)];
         }
         self.mark(Event::ClosingConnector);
-        let span = self.span(segments, last, ends, join.end);
+        let span = self.span(&segments[last], last, ends, join.end);
         std::iter::once(span)
             .chain(connectors(last, join))
             .collect()
     }
 
     /// The part of a segment between its two ends, as a move to `end`.
-    fn span(
+    pub(super) fn span(
         &mut self,
-        segments: &[Segment],
+        segment: &Segment,
         source: usize,
         ends: [SpanEnd; 2],
         end: Vector2,
@@ -139,10 +141,10 @@ impl Trace {
         let [from, to] = ends.map(|end| end.param);
         Move {
             end,
-            bulge: segments[source].bulge(from, to),
+            bulge: segment.bulge(from, to),
             why: Why {
                 origin: Origin::Span(source),
-                reason: self.span_reason(&segments[source], from, to),
+                reason: self.span_reason(segment, from, to),
                 rules: ends.map(|end| end.rule),
             },
         }
@@ -200,7 +202,7 @@ impl Trace {
 }
 
 /// The connector that a join after the segment `source` leads along, or the two by its point.
-fn connectors(source: usize, join: &Join) -> impl Iterator<Item = Move> {
+pub(super) fn connectors(source: usize, join: &Join) -> impl Iterator<Item = Move> {
     let why = Why {
         origin: Origin::Connector(source),
         reason: Reason::of_connector(join.cause),

@@ -1,8 +1,7 @@
 //! Holds jobs in columns on the proved code to 02's 2026-08: answer, six buffers, and three places past each,
 //! bit for bit. The same job in rows has to come to the same, place by place.
 
-use crate::jobs::{each_line, each_random_job, each_steered_job, steer};
-use crate::near::samples;
+use crate::jobs::{each_line, each_random_job, each_steered_job, samples, steer};
 use crate::pointed::{RATIOS, SAMPLES, turning};
 use crate::sides::{Families, Patterns};
 use oracle::columns::{ColumnBuffers, ColumnPlaces, Columns, Verdict, same};

@@ -27,6 +27,12 @@ pub fn read_round(row: &str) -> Option<Job> {
     read_job(row).filter(|job| job.ratio.is_none())
 }
 
+/// The jobs of a list of samples.
+pub fn samples(list: &str) -> Vec<Job> {
+    let rows = list.lines().filter(|row| !row.starts_with('#'));
+    rows.map(|row| read_job(row).expect("a job")).collect()
+}
+
 /// Hands out the rows of standard input, and says how many were not taken.
 pub fn each_line(mut take: impl FnMut(&str) -> bool) -> u64 {
     let mut none = 0;

@@ -26,11 +26,18 @@
 //!   and on 000 or the traced walk by the request's words, and in rows; with unequal columns, bad numbers in
 //!   any of them, and buffers of any lengths.
 //! - `compare columns` does so for the jobs, and for the calls, that standard input holds.
+//! - `compare draws SEED SCRIPTS STEERED` runs scripts of calls for jobs drawn vertex by vertex, 02's 2026-05, on
+//!   the proved code, or without it on the traced walk, and on a reference that keeps every vertex; each job is
+//!   held to the whole form.
+//! - `compare draws` does so for the scripts that standard input holds.
+//! - `compare draws-wrong SEED SCRIPTS` says which of such scripts tell wrong readings of 2026-05 from that.
 
 #[cfg(all(feature = "proved", with_000))]
 mod columns;
 #[cfg(with_000)]
 mod cover;
+#[cfg(with_000)]
+mod draws;
 #[cfg(with_000)]
 mod jobs;
 #[cfg(feature = "layers")]
@@ -72,7 +79,8 @@ fn main() {
                 "usage: compare [cover] SEED RANDOM STEERED | bulk SEED JOBS | keyholes SEED JOBS \
                  | layers SEED COUNT | rules [SEED RANDOM STEERED] | why [SEED RANDOM STEERED] \
                  | parts [SEED RANDOM STEERED] | pointed [SEED RANDOM STEERED] \
-                 | columns [SEED RANDOM STEERED] | rows"
+                 | columns [SEED RANDOM STEERED] | draws [SEED SCRIPTS STEERED] \
+                 | draws-wrong SEED SCRIPTS | rows"
             );
             exit(2);
         }
@@ -104,6 +112,9 @@ fn run_jobs(mode: &str, numbers: &[u64]) -> Option<bool> {
         }
         ("bulk", [seed, jobs]) => Some(sides::bulk(*seed, *jobs)),
         ("keyholes", [seed, jobs]) => Some(sides::keyholes(*seed, *jobs)),
+        ("draws", [seed, scripts, steered]) => Some(draws::compare(*seed, *scripts, *steered)),
+        ("draws", []) => Some(draws::rows()),
+        ("draws-wrong", [seed, scripts]) => Some(draws::wrong(*seed, *scripts)),
         ("rows", []) => Some(sides::rows()),
         #[cfg(feature = "layers")]
         ("rules", [seed, random, steered]) => Some(rules::compare(*seed, *random, *steered)),

@@ -1,11 +1,10 @@
 //! Jobs near samples, and among others.
 
-use crate::jobs::{each_plain_job, each_random_job, each_steered_job};
+use crate::jobs::{each_plain_job, each_random_job, each_steered_job, samples};
 #[cfg(feature = "proved")]
 use oracle::generate::REASONS;
 use oracle::generate::{KEYHOLES, Random};
 use oracle::stage::Job;
-use oracle::text::read_job;
 
 /// For so many random jobs there is one near a sample: few others have a point past an end.
 const PER_SAMPLE: u64 = 10;
@@ -52,12 +51,6 @@ pub fn each_ruled_job(
     each_random_job(KEYHOLES, !seed, random, &mut take);
     each_near_sample(RULES, seed, random / PER_SAMPLE, &mut take);
     each_steered_job(seed, steered, take);
-}
-
-/// The jobs of a list of samples.
-pub fn samples(list: &str) -> Vec<Job> {
-    let rows = list.lines().filter(|row| !row.starts_with('#'));
-    rows.map(|row| read_job(row).expect("a job")).collect()
 }
 
 /// Hands out `count` jobs of a list of samples with one or two of their numbers moved a little.

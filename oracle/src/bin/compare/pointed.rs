@@ -2,8 +2,8 @@
 //! segment, and each source segment's part. What 02's 2026-13 leaves as it was is held to 000: all of a
 //! job without a point, and all but the points of one with them.
 
-use crate::jobs::{each_line, each_random_job, steer};
-use crate::near::{each_near_sample, samples};
+use crate::jobs::{each_line, each_random_job, samples, steer};
+use crate::near::each_near_sample;
 use crate::sides::{PROVED, TRACED, Tally};
 use oracle::generate::{POINTED as FAMILIES, Steering, each_short_job};
 use oracle::part::{Output, PartAnswer};

@@ -1,0 +1,346 @@
+//! Runs a script on a pen and on the reference, and holds the whole outcome of each call to the other's:
+//! answer, every lent place and three past each list, and the record where it has to stay.
+
+use super::tally::{Met, Was};
+use super::{Call, Pen, Reference, Settings, Tally};
+use crate::generate::Random;
+use crate::generate::draws::garbled;
+use crate::stage::{Answer, BEYOND, Before, Buffers, Job, Outcome};
+use crate::text::exact;
+
+/// Where a pen differs, and how.
+#[derive(Debug)]
+pub struct Difference {
+    pub call: usize,
+    pub words: String,
+}
+
+type Held = Result<(), String>;
+
+/// Holds a pen that was never begun to the reference, call by call.
+pub fn hold<P: Pen>(pen: &P, script: &[Call], tally: &mut Tally) -> Option<Difference> {
+    let mut run = Run::new(pen, tally);
+    let held = |(place, call)| run.step(call).err().map(|words| (place, words));
+    let (call, words) = script.iter().enumerate().find_map(held)?;
+    Some(Difference { call, words })
+}
+
+/// What each call has to answer. Of a record with any contents nothing is known, as of one never begun.
+pub fn answers(script: &[Call]) -> Vec<Answer> {
+    let mut reference = Reference::default();
+    let calls = script.iter().map(|call| {
+        if matches!(call, Call::Garble(_)) {
+            reference = Reference::default();
+        }
+        answered(&mut reference, call, call.before()).answer
+    });
+    calls.collect()
+}
+
+/// A script under way.
+struct Run<'a, P> {
+    reference: Reference,
+    /// The record, and its copies.
+    pens: Vec<P>,
+    /// Whether the record holds what calls have left there.
+    known: bool,
+    job: Option<Joined>,
+    tally: &'a mut Tally,
+}
+
+/// The job at hand: all vertices given since its start, and all that was handed out.
+struct Joined {
+    settings: Settings,
+    source: Vec<f64>,
+    vertices: Vec<u64>,
+    flags: Vec<u8>,
+    indexes: Vec<u32>,
+    origins: Vec<u32>,
+}
+
+impl<'a, P: Pen> Run<'a, P> {
+    fn new(pen: &P, tally: &'a mut Tally) -> Self {
+        Self {
+            reference: Reference::default(),
+            pens: vec![pen.clone()],
+            known: true,
+            job: None,
+            tally,
+        }
+    }
+
+    fn step(&mut self, call: &Call) -> Held {
+        match call {
+            Call::Copy => {
+                self.tally.met(Met::Copies);
+                self.pens.push(self.pens[0].clone());
+                Ok(())
+            }
+            Call::Garble(seed) => {
+                self.garble(*seed);
+                Ok(())
+            }
+            Call::Draw(..) | Call::End(_) if !self.known => self.hold_unknown(call),
+            _ => self.hold_known(call),
+        }
+    }
+
+    fn garble(&mut self, seed: u64) {
+        self.tally.met(Met::Garbled);
+        self.pens.truncate(1);
+        let mut random = Random::new(seed);
+        let way = random.below(garbled::WAYS);
+        self.pens[0].garble(|word| garbled::word(&mut random, way, word));
+        self.known = false;
+        self.job = None;
+    }
+
+    /// Of a record with any contents, a copy of it has to answer and to hold the same, and what is not
+    /// handed out stays.
+    fn hold_unknown(&mut self, call: &Call) -> Held {
+        let before = call.before();
+        let mut pens = [self.pens[0].clone(), self.pens[0].clone()];
+        let [one, two] = pens.each_mut().map(|pen| answered(pen, call, before));
+        self.pens.truncate(1);
+        let [first, second] = pens;
+        if one != two {
+            return Err(format!("of a copy: {}", told(&one, &two)));
+        }
+        if !first.same(&second) {
+            return Err("a record and its copy do not hold the same".to_owned());
+        }
+        if ![0, 1, 2, 3, 4, 5, 6, 9].contains(&one.answer[0]) {
+            return Err(format!("there is no number {}", one.answer[0]));
+        }
+        if !keeps(&one, before) {
+            return Err("a place that is not handed out does not stay".to_owned());
+        }
+        self.tally.unknown(one.answer[0]);
+        self.pens[0] = first;
+        Ok(())
+    }
+
+    fn hold_known(&mut self, call: &Call) -> Held {
+        let before = call.before();
+        let was = Was::of(&self.reference);
+        let expected = answered(&mut self.reference, call, before);
+        let stays = stays(call, &expected.answer, was.refused);
+        self.tally.call(call, was, &expected.answer);
+        for (copy, pen) in self.pens.iter_mut().enumerate() {
+            let held = stays.then(|| pen.clone());
+            let outcome = answered(pen, call, before);
+            if outcome != expected {
+                return Err(format!("{}{}", of_copy(copy), told(&expected, &outcome)));
+            }
+            if held.is_some_and(|held| !held.same(pen)) {
+                return Err(format!("{}the record does not stay", of_copy(copy)));
+            }
+        }
+        self.tally.met_if(stays, Met::Stayed);
+        self.known = true;
+        if self.pens.iter().any(|pen| !pen.same(&self.pens[0])) {
+            return Err("a record and its copy do not hold the same".to_owned());
+        }
+        self.follow(call, &expected)
+    }
+
+    /// Joins what was handed out, and holds a job to the whole form once it has ended.
+    fn follow(&mut self, call: &Call, outcome: &Outcome) -> Held {
+        let [number, place, ..] = outcome.answer;
+        if let Call::Start(settings) = call {
+            let job = Joined::new(*settings);
+            let held = match number {
+                0 => Ok(()),
+                _ => self.hold_whole(&job, outcome.answer),
+            };
+            self.job = (number == 0).then_some(job);
+            return held;
+        }
+        let Some(mut job) = self.job.take() else {
+            return Ok(());
+        };
+        let earlier = !job.vertices.is_empty();
+        job.join(outcome);
+        let first = job.source.len() / 3;
+        let ended = match (number, call) {
+            (0, Call::Draw(..)) | (1 | 4, _) => false,
+            (6, Call::End(_)) => {
+                self.tally.refused_end(place);
+                true
+            }
+            (0, _) => true,
+            _ => {
+                let given = place as usize + 1 - first;
+                job.source.extend(&call.numbers()[..3 * given]);
+                self.tally.refused(&outcome.answer, earlier, &job.source);
+                true
+            }
+        };
+        if number == 0 {
+            self.tally.pieces(call, outcome, &job.settings, first);
+            job.source.extend(call.numbers());
+        }
+        if !ended {
+            self.job = Some(job);
+            return Ok(());
+        }
+        if number == 0 {
+            let drawn = [job.vertices.len(), job.indexes.len()];
+            self.tally.done(&job.settings, &job.source, drawn);
+        }
+        self.hold_whole(&job, outcome.answer)
+    }
+
+    /// The whole form of the same vertices has to draw the same, or to refuse them with the same number.
+    fn hold_whole(&mut self, joined: &Joined, answer: Answer) -> Held {
+        let job = joined.settings.whole(&joined.source);
+        self.tally.met(Met::Wholes);
+        let by_000 = run(&job, |job, lent| match job.ratio {
+            None => crate::job(job, lent),
+            Some(_) => crate::traced::stage(job, lent),
+        });
+        joined
+            .held_to(&by_000, answer)
+            .map_err(|words| format!("the whole form: {words}"))?;
+        let pen = &self.pens[0];
+        let mut own = false;
+        let outcome = run(&job, |job, lent| match pen.whole(job, lent) {
+            Some(answer) => {
+                own = true;
+                answer
+            }
+            None => [0; 5],
+        });
+        if own {
+            self.tally.met(Met::OwnWholes);
+            let held = joined.held_to(&outcome, answer);
+            held.map_err(|words| format!("its own whole form: {words}"))?;
+        }
+        Ok(())
+    }
+}
+
+fn run(job: &Job, stage: impl FnOnce(&Job, crate::stage::Lent) -> Answer) -> Outcome {
+    let mut buffers = Buffers::of(job.room);
+    let answer = stage(job, buffers.lend(job.room));
+    buffers.after(answer)
+}
+
+impl Joined {
+    fn new(settings: Settings) -> Self {
+        Self {
+            settings,
+            source: Vec::new(),
+            vertices: Vec::new(),
+            flags: Vec::new(),
+            indexes: Vec::new(),
+            origins: Vec::new(),
+        }
+    }
+
+    fn join(&mut self, outcome: &Outcome) {
+        let [_, _, vertices, indexes, segments] = outcome.answer.map(|count| count as usize);
+        self.vertices.extend(&outcome.vertices[..3 * vertices]);
+        self.indexes.extend(&outcome.indexes[..indexes]);
+        self.flags.extend(&outcome.flags[..segments]);
+        self.origins.extend(&outcome.origins[..segments]);
+    }
+
+    fn held_to(&self, whole: &Outcome, answer: Answer) -> Held {
+        let [number, place, ..] = answer;
+        let whole_place = match number {
+            3 => self.source.len().checked_sub(3).map(|_| place),
+            5 => Some(place - 1),
+            _ => Some(0),
+        };
+        if whole.answer[0] != number || whole_place.is_some_and(|place| whole.answer[1] != place) {
+            return Err(format!(
+                "{:?} for number {number}, place {place}",
+                whole.answer
+            ));
+        }
+        let count = 3 * whole.answer[2] as usize;
+        let same = number != 0
+            || whole.vertices[..count] == self.vertices
+                && whole.drawn_flags() == self.flags
+                && whole.invalid() == self.indexes
+                && whole.drawn_origins() == self.origins;
+        if same {
+            return Ok(());
+        }
+        let [vertices, flags] = [self.vertices.len() / 3, self.flags.len()];
+        Err(format!(
+            "it draws otherwise: {} vertices, joined are {vertices} with {flags} flags",
+            whole.answer[2]
+        ))
+    }
+}
+
+/// A call over its pattern, with places past what is lent.
+fn answered<P: Pen>(pen: &mut P, call: &Call, before: Before) -> Outcome {
+    let room = call.room();
+    let mut buffers = Buffers::over(before, room.map(|lent| lent + BEYOND));
+    let lent = buffers.lend(room);
+    let answer = match call {
+        Call::Start(settings) => pen.start(*settings),
+        Call::Draw(source, _) => pen.draw(source, lent),
+        Call::End(_) => pen.end(lent),
+        Call::Copy | Call::Garble(_) => [0; 5],
+    };
+    buffers.after(answer)
+}
+
+/// Whether a call leaves the record as it was.
+fn stays(call: &Call, answer: &Answer, refused: bool) -> bool {
+    match call {
+        Call::Start(_) => false,
+        Call::Draw(source, _) if source.is_empty() => true,
+        _ => refused || [1, 4, 9].contains(&answer[0]),
+    }
+}
+
+/// Whether each place from the counts on holds what it held.
+fn keeps(outcome: &Outcome, before: Before) -> bool {
+    let [_, _, vertices, indexes, segments] = outcome.answer.map(|count| count as usize);
+    let mut numbers = outcome.vertices.iter().enumerate().skip(3 * vertices);
+    let mut flags = outcome.flags.iter().enumerate().skip(segments);
+    let mut origins = outcome.origins.iter().enumerate().skip(segments);
+    let mut raised = outcome.indexes.iter().enumerate().skip(indexes);
+    numbers.all(|(place, bits)| *bits == before.number(place))
+        && flags.all(|(place, flag)| *flag == before.flag(place))
+        && origins.all(|(place, origin)| *origin == before.origin(place))
+        && raised.all(|(place, index)| *index == before.index(place))
+}
+
+fn of_copy(copy: usize) -> String {
+    match copy {
+        0 => String::new(),
+        _ => format!("copy {copy}: "),
+    }
+}
+
+/// Both answers, and the first place that differs.
+fn told(expected: &Outcome, outcome: &Outcome) -> String {
+    let words = |outcome: &Outcome| {
+        let numbers = outcome
+            .vertices
+            .iter()
+            .map(|bits| exact(f64::from_bits(*bits)));
+        let words = |list: &[u32]| list.iter().map(u32::to_string).collect();
+        [
+            numbers.collect::<Vec<String>>(),
+            outcome.flags.iter().map(u8::to_string).collect(),
+            words(&outcome.indexes),
+            words(&outcome.origins),
+        ]
+    };
+    let answers = format!("answer {:?} for {:?}", outcome.answer, expected.answer);
+    let kinds = ["number", "flag", "index", "origin"];
+    for ((kind, one), two) in kinds.iter().zip(words(expected)).zip(words(outcome)) {
+        let mut pairs = one.iter().zip(&two).enumerate();
+        if let Some((place, (a, b))) = pairs.find(|(_, (a, b))| a != b) {
+            return format!("{answers}; {kind} {place} is {b} for {a}");
+        }
+    }
+    format!("{answers}; all places are the same")
+}
