@@ -9,7 +9,7 @@ mod tally;
 
 use crate::stage::{Answer, Before, Job, Lent, Places};
 pub use held::{Difference, answers, hold};
-pub use pencil::{Pencil, WRONG, Wrong};
+pub use pencil::{Pencil, SAME, WRONG, Wrong};
 pub use reference::Reference;
 pub use shorten::shortened;
 pub use tally::Tally;

@@ -3,6 +3,8 @@
 /// As the Rust caller declares it.
 #[path = "../../callers/rust/src/archive.rs"]
 mod archive;
+#[cfg(with_000)]
+mod draws;
 
 use crate::columns::{ColumnLent, Columns};
 use crate::part::{Output, PartAnswer};
@@ -12,6 +14,8 @@ use archive::{
     blidrosk_raw_offset_columns_pointed, blidrosk_raw_offset_pointed, blidrosk_why,
     blidrosk_why_pointed,
 };
+#[cfg(with_000)]
+pub use draws::Drawing;
 use std::array;
 
 /// An answer that no job has.

@@ -5,7 +5,7 @@ use super::tally::{Met, Was};
 use super::{Call, Pen, Reference, Settings, Tally};
 use crate::generate::Random;
 use crate::generate::draws::garbled;
-use crate::stage::{Answer, BEYOND, Before, Buffers, Job, Outcome};
+use crate::stage::{Answer, BEYOND, Before, Buffers, Outcome};
 use crate::text::exact;
 
 /// Where a pen differs, and how.
@@ -146,84 +146,56 @@ impl<'a, P: Pen> Run<'a, P> {
 
     /// Joins what was handed out, and holds a job to the whole form once it has ended.
     fn follow(&mut self, call: &Call, outcome: &Outcome) -> Held {
-        let [number, place, ..] = outcome.answer;
+        let number = outcome.answer[0];
         if let Call::Start(settings) = call {
-            let job = Joined::new(*settings);
-            let held = match number {
-                0 => Ok(()),
-                _ => self.hold_whole(&job, outcome.answer),
-            };
-            self.job = (number == 0).then_some(job);
-            return held;
+            self.job = Some(Joined::new(*settings));
+            return self.end_if(number != 0, outcome.answer);
         }
-        let Some(mut job) = self.job.take() else {
+        let Some(job) = &mut self.job else {
             return Ok(());
         };
-        let earlier = !job.vertices.is_empty();
-        job.join(outcome);
         let first = job.source.len() / 3;
-        let ended = match (number, call) {
-            (0, Call::Draw(..)) | (1 | 4, _) => false,
-            (6, Call::End(_)) => {
-                self.tally.refused_end(place);
-                true
-            }
-            (0, _) => true,
-            _ => {
-                let given = place as usize + 1 - first;
-                job.source.extend(&call.numbers()[..3 * given]);
-                self.tally.refused(&outcome.answer, earlier, &job.source);
-                true
-            }
-        };
-        if number == 0 {
-            self.tally.pieces(call, outcome, &job.settings, first);
-            job.source.extend(call.numbers());
+        let earlier = !job.vertices.is_empty();
+        job.join(call, outcome);
+        match (call, number) {
+            (_, 1 | 4) => return Ok(()),
+            (_, 0) => self.tally.pieces(call, outcome, &job.settings, first),
+            (Call::End(_), _) => self.tally.refused_end(outcome.answer[1]),
+            _ => self.tally.refused(&outcome.answer, earlier, &job.source),
         }
-        if !ended {
-            self.job = Some(job);
-            return Ok(());
-        }
-        if number == 0 {
+        let ended = number != 0 || matches!(call, Call::End(_));
+        if ended && number == 0 {
             let drawn = [job.vertices.len(), job.indexes.len()];
             self.tally.done(&job.settings, &job.source, drawn);
         }
-        self.hold_whole(&job, outcome.answer)
+        self.end_if(ended, outcome.answer)
     }
 
-    /// The whole form of the same vertices has to draw the same, or to refuse them with the same number.
-    fn hold_whole(&mut self, joined: &Joined, answer: Answer) -> Held {
+    /// The whole form of all vertices of a job that has ended has to draw the same, or to refuse them with
+    /// the same number.
+    fn end_if(&mut self, ended: bool, answer: Answer) -> Held {
+        let Some(joined) = self.job.take_if(|_| ended) else {
+            return Ok(());
+        };
         let job = joined.settings.whole(&joined.source);
+        let mut buffers = Buffers::of(job.room);
+        let lent = buffers.lend(job.room);
+        let whole = match job.ratio {
+            None => crate::job(&job, lent),
+            Some(_) => crate::traced::stage(&job, lent),
+        };
         self.tally.met(Met::Wholes);
-        let by_000 = run(&job, |job, lent| match job.ratio {
-            None => crate::job(job, lent),
-            Some(_) => crate::traced::stage(job, lent),
-        });
-        joined
-            .held_to(&by_000, answer)
-            .map_err(|words| format!("the whole form: {words}"))?;
-        let pen = &self.pens[0];
-        let mut own = false;
-        let outcome = run(&job, |job, lent| match pen.whole(job, lent) {
-            Some(answer) => {
-                own = true;
-                answer
-            }
-            None => [0; 5],
-        });
-        if own {
-            self.tally.met(Met::OwnWholes);
-            let held = joined.held_to(&outcome, answer);
-            held.map_err(|words| format!("its own whole form: {words}"))?;
-        }
-        Ok(())
-    }
-}
+        let held = joined.held_to(&buffers.after(whole), answer);
+        held.map_err(|words| format!("the whole form: {words}"))?;
 
-fn run(job: &Job, stage: impl FnOnce(&Job, crate::stage::Lent) -> Answer) -> Outcome {
-    let mut buffers = Buffers::of(job.room);
-    let answer = stage(job, buffers.lend(job.room));
-    buffers.after(answer)
+        let mut buffers = Buffers::of(job.room);
+        let Some(own) = self.pens[0].whole(&job, buffers.lend(job.room)) else {
+            return Ok(());
+        };
+        self.tally.met(Met::OwnWholes);
+        let held = joined.held_to(&buffers.after(own), answer);
+        held.map_err(|words| format!("its own whole form: {words}"))
+    }
 }
 
 impl Joined {
@@ -238,40 +210,50 @@ impl Joined {
         }
     }
 
-    fn join(&mut self, outcome: &Outcome) {
+    /// What a call handed out, and the vertices that it took, up to one that it refused.
+    fn join(&mut self, call: &Call, outcome: &Outcome) {
+        let [number, place, ..] = outcome.answer;
         let [_, _, vertices, indexes, segments] = outcome.answer.map(|count| count as usize);
         self.vertices.extend(&outcome.vertices[..3 * vertices]);
         self.indexes.extend(&outcome.indexes[..indexes]);
         self.flags.extend(&outcome.flags[..segments]);
         self.origins.extend(&outcome.origins[..segments]);
+        let given = call.numbers();
+        let taken = match number {
+            0 => given.len(),
+            1 | 4 => 0,
+            _ => 3 * (place as usize + 1) - self.source.len(),
+        };
+        self.source.extend(&given[..taken.min(given.len())]);
     }
 
+    /// The same as a whole drawing, or a refusal: places are those of 01.
     fn held_to(&self, whole: &Outcome, answer: Answer) -> Held {
         let [number, place, ..] = answer;
-        let whole_place = match number {
-            3 => self.source.len().checked_sub(3).map(|_| place),
-            5 => Some(place - 1),
-            _ => Some(0),
+        let place = match number {
+            // of a start: no vertex was given
+            3 if self.source.is_empty() => whole.answer[1],
+            3 => place,
+            5 => place - 1,
+            _ => 0,
         };
-        if whole.answer[0] != number || whole_place.is_some_and(|place| whole.answer[1] != place) {
-            return Err(format!(
-                "{:?} for number {number}, place {place}",
-                whole.answer
-            ));
+        if whole.answer[..2] != [number, place] {
+            return Err(format!("{:?} for {number} at {place}", whole.answer));
         }
         let count = 3 * whole.answer[2] as usize;
-        let same = number != 0
-            || whole.vertices[..count] == self.vertices
-                && whole.drawn_flags() == self.flags
-                && whole.invalid() == self.indexes
-                && whole.drawn_origins() == self.origins;
-        if same {
+        let same = whole.vertices[..count] == self.vertices
+            && whole.drawn_flags() == self.flags
+            && whole.invalid() == self.indexes
+            && whole.drawn_origins() == self.origins;
+        if number != 0 || same {
             return Ok(());
         }
-        let [vertices, flags] = [self.vertices.len() / 3, self.flags.len()];
         Err(format!(
-            "it draws otherwise: {} vertices, joined are {vertices} with {flags} flags",
-            whole.answer[2]
+            "{:?}, joined are {} vertices with {} flags and {} indexes",
+            whole.answer,
+            self.vertices.len() / 3,
+            self.flags.len(),
+            self.indexes.len(),
         ))
     }
 }

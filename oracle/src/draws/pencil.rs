@@ -12,7 +12,7 @@ use crate::stage::{Answer, Lent};
 use crate::traced::{Stroke, Turns};
 use out::Out;
 use std::cell::RefCell;
-pub use wrong::{WRONG, Wrong};
+pub use wrong::{SAME, WRONG, Wrong};
 
 const MOST_VERTICES: usize = 4096;
 
@@ -143,6 +143,9 @@ impl Pen for Pencil {
             Ok(begun) => begun,
             Err(answer) => return answer,
         };
+        if self.is(Wrong::GroupStarts) {
+            begun.turns = Begun::new(begun.settings, begun.settings.ratio).turns;
+        }
         let mut out = Out::new(self.wrong, begun.segments, begun.vertices, lent);
         if let Some((number, place)) = self.ahead(&begun, source) {
             return self.refuse([number, place, 0, 0, 0]);
@@ -185,9 +188,8 @@ impl Pen for Pencil {
         }
         let mut out = Out::new(self.wrong, begun.segments, v, lent);
         let (strokes, point) = self.last(&mut begun);
-        if strokes.iter().any(|stroke| !self.is_finite(stroke.vertex))
-            || point.is_some_and(|point| !self.is_finite(point))
-        {
+        let mut drawn = strokes.iter().map(|stroke| stroke.vertex).chain(point);
+        if self.asks_finite(&begun) && drawn.any(|vertex| !self.is_finite(vertex)) {
             return self.refuse_end(begun, &strokes, out);
         }
         out.hand_last(&strokes, point, begun.segments);

@@ -336,7 +336,14 @@ impl Tally {
         }
         println!("calls: in all; answered 0, 1, .. 6, 9");
         let mut all = [0; 10];
-        for (kind, counts) in &self.calls {
+        let mut calls = self.calls.clone();
+        calls.sort_by_key(|known| {
+            REACHED
+                .iter()
+                .position(|row| row.0 == known.0)
+                .unwrap_or(99)
+        });
+        for (kind, counts) in &calls {
             print_counts(kind, counts);
             all.iter_mut()
                 .zip(counts)

@@ -229,10 +229,11 @@ fn bad_number(random: &mut Random, source: &mut [f64]) {
     };
 }
 
-/// A vertex at one of the places after the first.
+/// A vertex at one of the places after the first, at times the last.
 fn later_vertex(random: &mut Random, source: &[f64]) -> Option<usize> {
     let v = source.len() / 3;
-    (v > 1).then(|| 1 + random.below(v - 1))
+    let last = random.one_in(3);
+    (v > 1).then(|| if last { v - 1 } else { 1 + random.below(v - 1) })
 }
 
 /// Puts a vertex where the one before is, at times as the other zero.
@@ -250,18 +251,23 @@ fn repeat(random: &mut Random, source: &mut [f64]) {
     }
 }
 
-/// Puts a vertex so near to the one before that the square of the way there is zero.
+/// Puts a vertex so near to the one before that the square of the way there is zero. At times the one
+/// before that is so near that a gap leads there, and nothing is found until the gap's end is left.
 fn underflow(random: &mut Random, source: &mut [f64]) {
     let Some(place) = later_vertex(random, source) else {
         return;
     };
     let near = [1e-200, -1e-200, 5e-324, 1e-165];
+    let before_that = random.one_in(2);
     for axis in [0, 1] {
         let before = 3 * place - 3 + axis;
         source[3 * place + axis] = source[before];
         if axis == 1 || random.one_in(2) {
             source[before] = 0.0;
             source[3 * place + axis] = random.pick(&near);
+        }
+        if place > 1 && before_that {
+            source[before - 3] = source[before] - 1e-10;
         }
     }
 }

@@ -3,7 +3,7 @@
 
 use crate::jobs::{each_line, each_random_job, each_steered_job, samples, steer};
 use oracle::draws::{
-    Call, Difference, Pen, Pencil, Script, Settings, Tally, WRONG, answers, hold, shortened,
+    Call, Difference, Pen, Pencil, SAME, Script, Settings, Tally, WRONG, answers, hold, shortened,
 };
 use oracle::generate::draws::{each_limit_script, each_short_script, script};
 use oracle::generate::{FAMILIES, Family, KEYHOLES, POINTED, REASONS, Random, Steering};
@@ -85,18 +85,22 @@ pub fn wrong(seed: u64, scripts: u64) -> bool {
         }
         true
     });
+    let mut as_they_should = true;
     for ((wrong, text), (told, first)) in WRONG.iter().zip(&told) {
+        let same = SAME.iter().find(|same| same.0 == *wrong);
+        as_they_should &= same.is_some() == (*told == 0);
         println!("{told:>9} {wrong:?}: {text}");
+        if let Some((_, why)) = same {
+            println!("          the same: {why}");
+        }
         if let Some(script) = first {
             println!("          {}", in_words(script));
         }
     }
     let untold = told.iter().filter(|told| told.0 == 0).count();
-    println!(
-        "{} wrong readings, {untold} told by none of {count} scripts",
-        WRONG.len()
-    );
-    untold == 0
+    let (all, same) = (WRONG.len(), SAME.len());
+    println!("{all} readings, {untold} told by none of {count} scripts, {same} the same");
+    as_they_should
 }
 
 /// Hands out the scripts, with the name of the family.

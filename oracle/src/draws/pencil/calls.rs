@@ -22,6 +22,10 @@ impl Pencil {
             let inside = (low..=high).contains(&number);
             inside && !(self.is(wrong) && (number == low || number == high))
         };
+        let bad_ratio = |ratio: f64| !(1.0..=10.0).contains(&ratio);
+        if self.is(Wrong::RatioFirst) && settings.ratio.is_some_and(bad_ratio) {
+            return Some(2);
+        }
         let untested = self.is(Wrong::RatioUntested)
             || self.is(Wrong::RatioOfCopies) && settings.offset == 0.0;
         if !within(settings.offset, -1e6, 1e6, Wrong::OffsetOut) {
@@ -56,6 +60,7 @@ impl Pencil {
             Wrong::RoomBeforeRagged => [Old, Nine, Room, Ragged],
             Wrong::RaggedBeforeNine => [Old, Ragged, Nine, Room],
             Wrong::RoomBeforeNine => [Old, Room, Nine, Ragged],
+            Wrong::NineBeforeOld => [Nine, Old, Ragged, Room],
             _ => [Old, Nine, Ragged, Room],
         };
         self.first_answer(order, Some(source), lent)
@@ -65,6 +70,7 @@ impl Pencil {
         let order = match self.wrong {
             Wrong::RoomFirst => [Room, Old, Nine, Ragged],
             Wrong::RoomBeforeNine => [Old, Room, Nine, Ragged],
+            Wrong::NineBeforeOld => [Nine, Old, Ragged, Room],
             _ => [Old, Nine, Ragged, Room],
         };
         self.first_answer(order, None, lent)

@@ -40,11 +40,13 @@ impl<'a> Out<'a> {
                 Wrong::IndexByMove => stroke.origin as usize,
                 _ => first + i,
             };
-            let origin = if self.is(Wrong::OriginInCall) {
-                let source = self.vertices.saturating_sub(2) as u32;
-                stroke.origin.saturating_sub(2 * source)
-            } else {
-                stroke.origin
+            let origin = match self.wrong {
+                Wrong::OriginInCall => {
+                    let source = self.vertices.saturating_sub(2) as u32;
+                    stroke.origin.saturating_sub(2 * source)
+                }
+                Wrong::OriginNext => stroke.origin + 2 * (stroke.origin % 2),
+                _ => stroke.origin,
             };
             let segment = (stroke.flag, origin, index as u32);
             self.handed.push((stroke.vertex, Some(segment)));
@@ -97,6 +99,7 @@ impl<'a> Out<'a> {
     /// Writes what is handed out. A wrong reading may have more than there is room for.
     pub fn answer(self, [number, place]: [u32; 2]) -> Answer {
         let at_segment = self.is(Wrong::IndexAtSegment);
+        let unflagged = self.is(Wrong::FlagOfIndex);
         let Lent {
             vertices,
             flags,
@@ -113,7 +116,7 @@ impl<'a> Out<'a> {
             let Some((flag, origin, index)) = segment else {
                 continue;
             };
-            put(flags, segment_count, u8::from(flag));
+            put(flags, segment_count, u8::from(flag && !unflagged));
             put(origins, segment_count, origin);
             if flag {
                 let place = if at_segment {

@@ -98,6 +98,10 @@ impl Pencil {
                 let start = begun.turns.clone().end_of_any().0;
                 Vec::from_iter(start)
             }
+            Wrong::FirstLeft => {
+                piece.retain(|stroke| stroke.origin != 0);
+                piece
+            }
             Wrong::FirstCollapsedLeft => {
                 piece.retain(|stroke| !(stroke.flag && stroke.origin == 0));
                 piece
@@ -111,7 +115,9 @@ impl Pencil {
         let order = match self.wrong {
             Wrong::RepeatedBeforeNumber => [TooMany, Repeated, Number, Finite],
             Wrong::NumberBeforeTooMany => [Number, TooMany, Repeated, Finite],
-            Wrong::RepeatedBeforeTooMany => [Repeated, TooMany, Number, Finite],
+            Wrong::RepeatedBeforeTooMany if begun.vertices >= MOST_VERTICES => {
+                [Repeated, TooMany, Number, Finite]
+            }
             Wrong::FiniteBeforeNumber => [TooMany, Finite, Number, Repeated],
             Wrong::FiniteBeforeRepeated => [TooMany, Number, Finite, Repeated],
             _ => [TooMany, Number, Repeated, Finite],
@@ -125,14 +131,15 @@ impl Pencil {
             TooMany => (begun.vertices >= most).then_some(2),
             Number => self.bad_number(begun, vertex).then_some(3),
             Repeated => self.repeated(begun, vertex).then_some(5),
-            Finite => self.not_finite(piece).then_some(6),
+            Finite => self.not_finite(begun, piece).then_some(6),
         })
     }
 
     fn bad_number(&self, begun: &Begun, [x, y, bulge]: [f64; 3]) -> bool {
+        let nan_taken = self.is(Wrong::NanTaken);
         let in_plane = |number: f64| {
             let on_limit = self.is(Wrong::LimitsOut) && number.abs() == 1e6;
-            (-1e6..=1e6).contains(&number) && !on_limit
+            (-1e6..=1e6).contains(&number) && !on_limit || nan_taken && number.is_nan()
         };
         let most = if self.is(Wrong::BulgeThousand) {
             1e3
@@ -144,7 +151,8 @@ impl Pencil {
         } else {
             bulge
         };
-        !(in_plane(x) && in_plane(y) && (-most..=most).contains(&bulge))
+        let is_bulge = (-most..=most).contains(&bulge) || nan_taken && bulge.is_nan();
+        !(in_plane(x) && in_plane(y) && is_bulge)
     }
 
     fn repeated(&self, begun: &Begun, [x, y, _]: [f64; 3]) -> bool {
@@ -165,12 +173,18 @@ impl Pencil {
             }
             Wrong::RepeatedByBits => pairs.iter().all(|(a, b)| a.to_bits() == b.to_bits()),
             Wrong::RepeatedInX => before[0] == x,
+            Wrong::RepeatedByDifference => pairs.iter().all(|(a, b)| a - b == 0.0),
             _ => pairs.iter().all(|(a, b)| a == b),
         }
     }
 
-    fn not_finite(&self, piece: &[Stroke]) -> bool {
-        if self.is(Wrong::SixAtEndAlone) {
+    /// Of a copy nothing is asked.
+    pub(super) fn asks_finite(&self, begun: &Begun) -> bool {
+        !self.copies(&begun.settings) || self.is(Wrong::CopyFinite)
+    }
+
+    fn not_finite(&self, begun: &Begun, piece: &[Stroke]) -> bool {
+        if !self.asks_finite(begun) || self.is(Wrong::SixAtEndAlone) {
             return false;
         }
         let leads_nowhere = |stroke: &Stroke| stroke.end.iter().any(|number| !number.is_finite());
@@ -257,8 +271,14 @@ impl Pencil {
             Wrong::LoneCollapsedDrawn => begun.turns.end_of_any(),
             _ => begun.turns.end(),
         };
-        strokes.extend(span.filter(|_| !self.is(Wrong::EndWithoutSpan)));
+        let left = |stroke: &Stroke| match self.wrong {
+            Wrong::EndWithoutSpan => true,
+            Wrong::EndFlaggedLeft => stroke.flag,
+            _ => false,
+        };
+        strokes.extend(span.filter(|stroke| !left(stroke)));
         match (self.wrong, begun.before) {
+            (Wrong::EndIfHandedOut, _) if begun.segments + strokes.len() == 0 => point = None,
             (Wrong::EndWithoutPoint, _) => point = None,
             (Wrong::EndPointAlways, Some([x, y, _])) => point = point.or(Some([x, y, 0.0])),
             (Wrong::EndPointOwnBulge, Some([_, _, bulge])) => {

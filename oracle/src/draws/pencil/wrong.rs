@@ -9,7 +9,7 @@ macro_rules! wrong {
             $($name,)*
         }
 
-        /// Each wrong reading, in words.
+        /// Each wrong reading, in words; those of `SAME` too.
         pub const WRONG: &[(Wrong, &str)] = &[$((Wrong::$name, $text),)*];
     };
 }
@@ -31,6 +31,9 @@ wrong! {
     ZerosAfter: "places that are not used are set to zero, as in the whole form",
     EndZerosAfter: "the end sets places that are not used to zero",
     RatioForgotten: "corners are drawn round in the pointed mode",
+    GroupStarts: "the walk starts anew with each call",
+    FirstLeft: "the walk's first segment is left out",
+    EndFlaggedLeft: "a flagged last span is left out",
     // copies
     CopyBulgeZero: "a copy's last bulge is 0",
     CopyLate: "a copy hands out the vertex before the last but one",
@@ -47,6 +50,8 @@ wrong! {
     IndexAtSegment: "an index stands at its segment's place",
     IndexLessAtEnd: "the end's index is one less",
     OriginInCall: "origins count from the call",
+    OriginNext: "a connector's origin is the segment after it",
+    FlagOfIndex: "an index is written, and no flag",
     // room
     RoomByDrawn: "room is asked for what is handed out",
     RoomByTurns: "room is asked for vertex by vertex, with what came before handed out",
@@ -101,6 +106,7 @@ wrong! {
     BulgeThousand: "a bulge above 1000 is refused",
     BulgeLater: "a bulge is tested once its segment is known",
     LimitsOut: "the limits of x and y are refused themselves",
+    NanTaken: "a NaN lies in every range",
     // refusals
     RefusalForgotten: "a bad vertex is refused, and the job goes on",
     RefusalUndone: "a refused call hands out nothing",
@@ -124,7 +130,6 @@ wrong! {
     SixForgotten: "No. 6 refuses a vertex, and the job goes on",
     SixEndPlaceBefore: "No. 6 at the end has place v - 1",
     SixEndPlaceZero: "No. 6 at the end has place 0",
-    SixEndHalf: "the end hands out its finite half",
     SixEndZeros: "No. 6 at the end sets two places to zero",
     SixEndForgotten: "after No. 6 at the end there is 9",
     SixEndLost: "after No. 6 at the end the job goes on",
@@ -155,4 +160,36 @@ wrong! {
     NineChanges: "9 changes the record",
     LaterChanges: "a repeated refusal changes the record",
     Shared: "copies of a record have one job",
+    // these no script can tell
+    NineBeforeOld: "9 before an old refusal",
+    RatioFirst: "the ratio is tested before the offset",
+    CopyFinite: "a copy's numbers are tested for being finite",
+    RepeatedByDifference: "repeated where both differences are zero",
+    EndIfHandedOut: "the last point is handed out where a segment was, and not where a move was kept",
+    SixEndHalf: "the end hands out its finite half",
 }
+
+/// Readings that come to the same, and why.
+pub const SAME: &[(Wrong, &str)] = &[
+    (
+        Wrong::NineBeforeOld,
+        "no record is refused and ended: an end after a refusal repeats it, and a start leaves neither",
+    ),
+    (Wrong::RatioFirst, "each setting has number 3 and place 0"),
+    (
+        Wrong::CopyFinite,
+        "No. 3 has turned away what is not finite",
+    ),
+    (
+        Wrong::RepeatedByDifference,
+        "the difference of two finite doubles is zero only where they are equal",
+    ),
+    (
+        Wrong::EndIfHandedOut,
+        "what is kept is handed out with the vertex that makes it certain, or refused",
+    ),
+    (
+        Wrong::SixEndHalf,
+        "an offset segment whose end is no number starts at none: both are off by one length or one centre",
+    ),
+];

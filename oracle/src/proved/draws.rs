@@ -1,0 +1,180 @@
+//! The archive's calls for a job drawn vertex by vertex, and the record that is lent to each.
+
+use super::{TORN, UNSET};
+use crate::draws::{Pen, Settings};
+use crate::stage::{Answer, Job, Lent};
+use std::array;
+
+/// `struct blidrosk_drawing`: opaque, any contents being a record.
+#[repr(C)]
+#[derive(Debug, Copy, Clone)]
+struct Record {
+    numbers: [f64; 40],
+    words: [u32; 16],
+}
+
+const _: () = assert!(size_of::<Record>() == 384 && align_of::<Record>() == 8);
+
+unsafe extern "C" {
+    fn blidrosk_draw_start(drawing: *mut Record, offset: f64, eps: f64, answer: *mut Answer)
+    -> u32;
+
+    fn blidrosk_draw_start_pointed(
+        drawing: *mut Record,
+        offset: f64,
+        eps: f64,
+        ratio: f64,
+        answer: *mut Answer,
+    ) -> u32;
+
+    fn blidrosk_draw_vertices(
+        drawing: *mut Record,
+        source: *const f64,
+        source_len: usize,
+        vertices: *mut f64,
+        vertices_len: usize,
+        flags: *mut u8,
+        flags_len: usize,
+        indexes: *mut u32,
+        indexes_len: usize,
+        origins: *mut u32,
+        origins_len: usize,
+        answer: *mut Answer,
+    ) -> u32;
+
+    fn blidrosk_draw_end(
+        drawing: *mut Record,
+        vertices: *mut f64,
+        vertices_len: usize,
+        flags: *mut u8,
+        flags_len: usize,
+        indexes: *mut u32,
+        indexes_len: usize,
+        origins: *mut u32,
+        origins_len: usize,
+        answer: *mut Answer,
+    ) -> u32;
+}
+
+/// What stands beside the record, and has to stay.
+const GUARD: [u64; 2] = [0x7ff4_0000_dead_beef, 0xaaaa_aaaa_5555_5555];
+
+/// A record between two guards.
+#[repr(C)]
+#[derive(Debug, Copy, Clone)]
+pub struct Drawing {
+    before: [u64; 2],
+    record: Record,
+    after: [u64; 2],
+}
+
+/// All zeros: never begun.
+impl Default for Drawing {
+    fn default() -> Self {
+        Self {
+            before: GUARD,
+            record: Record {
+                numbers: [0.0; 40],
+                words: [0; 16],
+            },
+            after: GUARD,
+        }
+    }
+}
+
+impl Drawing {
+    /// Makes a call. Its number comes back twice; where the two differ, or a place past the answer or
+    /// beside the record was written to, the answer is `TORN`.
+    fn call(&mut self, function: impl FnOnce(*mut Record, *mut Answer) -> u32) -> Answer {
+        let mut answer = [UNSET; 8];
+        let number = function(&raw mut self.record, answer.as_mut_ptr().cast());
+        let kept = answer[5..] == [UNSET; 3] && [self.before, self.after] == [GUARD; 2];
+        if kept && number == answer[0] {
+            array::from_fn(|i| answer[i])
+        } else {
+            TORN
+        }
+    }
+
+    /// The record's bits.
+    fn bits(&self) -> ([u64; 40], [u32; 16]) {
+        (self.record.numbers.map(f64::to_bits), self.record.words)
+    }
+}
+
+impl Pen for Drawing {
+    fn start(&mut self, settings: Settings) -> Answer {
+        let Settings { offset, eps, ratio } = settings;
+        // SAFETY: the record is one, and the answer has five places.
+        self.call(|record, answer| unsafe {
+            match ratio {
+                None => blidrosk_draw_start(record, offset, eps, answer),
+                Some(ratio) => blidrosk_draw_start_pointed(record, offset, eps, ratio, answer),
+            }
+        })
+    }
+
+    /// Where the source was written to, the answer is `TORN` too.
+    fn draw(&mut self, source: &[f64], lent: Lent) -> Answer {
+        let given = source.to_vec();
+        // SAFETY: as above, and each pointer is lent with its own length.
+        let answer = self.call(|record, answer| unsafe {
+            blidrosk_draw_vertices(
+                record,
+                given.as_ptr(),
+                given.len(),
+                lent.vertices.as_mut_ptr(),
+                lent.vertices.len(),
+                lent.flags.as_mut_ptr(),
+                lent.flags.len(),
+                lent.indexes.as_mut_ptr(),
+                lent.indexes.len(),
+                lent.origins.as_mut_ptr(),
+                lent.origins.len(),
+                answer,
+            )
+        });
+        if crate::columns::same(&given, source) {
+            answer
+        } else {
+            TORN
+        }
+    }
+
+    fn end(&mut self, lent: Lent) -> Answer {
+        // SAFETY: as above.
+        self.call(|record, answer| unsafe {
+            blidrosk_draw_end(
+                record,
+                lent.vertices.as_mut_ptr(),
+                lent.vertices.len(),
+                lent.flags.as_mut_ptr(),
+                lent.flags.len(),
+                lent.indexes.as_mut_ptr(),
+                lent.indexes.len(),
+                lent.origins.as_mut_ptr(),
+                lent.origins.len(),
+                answer,
+            )
+        })
+    }
+
+    fn same(&self, other: &Self) -> bool {
+        self.bits() == other.bits()
+    }
+
+    fn garble(&mut self, mut word: impl FnMut(u32) -> u32) {
+        for number in &mut self.record.numbers {
+            let bits = number.to_bits();
+            let [low, high] = [bits, bits >> 32].map(|half| u64::from(word(half as u32)));
+            *number = f64::from_bits(high << 32 | low);
+        }
+        for place in &mut self.record.words {
+            *place = word(*place);
+        }
+    }
+
+    fn whole(&self, job: &Job, lent: Lent) -> Option<Answer> {
+        Some(super::job(job, lent))
+    }
+}
