@@ -95,8 +95,8 @@ pub trait Pen: Clone {
     /// Whether two records hold the same, bit for bit.
     fn same(&self, other: &Self) -> bool;
 
-    /// Changes each word of the record, where it has any.
-    fn garble(&mut self, _word: impl FnMut(u32) -> u32) {}
+    /// Changes each word of the record by its place, where it has any.
+    fn garble(&mut self, _word: impl FnMut(usize, u32) -> u32) {}
 
     /// A job as a whole, by a form of its own.
     fn whole(&self, _job: &Job, _lent: Lent) -> Option<Answer> {

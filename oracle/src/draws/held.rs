@@ -5,7 +5,7 @@ use super::tally::{Met, Was};
 use super::{Call, Pen, Reference, Settings, Tally};
 use crate::generate::Random;
 use crate::generate::draws::garbled;
-use crate::stage::{Answer, BEYOND, Before, Buffers, Outcome};
+use crate::stage::{Answer, BEYOND, Before, Buffers, Outcome, Places};
 use crate::text::exact;
 
 /// Where a pen differs, and how.
@@ -90,7 +90,7 @@ impl<'a, P: Pen> Run<'a, P> {
         self.pens.truncate(1);
         let mut random = Random::new(seed);
         let way = random.below(garbled::WAYS);
-        self.pens[0].garble(|word| garbled::word(&mut random, way, word));
+        self.pens[0].garble(|place, word| garbled::word(&mut random, way, place, word));
         self.known = false;
         self.job = None;
     }
@@ -109,8 +109,8 @@ impl<'a, P: Pen> Run<'a, P> {
         if !first.same(&second) {
             return Err("a record and its copy do not hold the same".to_owned());
         }
-        if ![0, 1, 2, 3, 4, 5, 6, 9].contains(&one.answer[0]) {
-            return Err(format!("there is no number {}", one.answer[0]));
+        if !fits(&one.answer, call.room()) {
+            return Err(format!("more than fits: {:?}", one.answer));
         }
         if !keeps(&one, before) {
             return Err("a place that is not handed out does not stay".to_owned());
@@ -279,6 +279,12 @@ fn stays(call: &Call, answer: &Answer, refused: bool) -> bool {
         Call::Draw(source, _) if source.is_empty() => true,
         _ => refused || [1, 4, 9].contains(&answer[0]),
     }
+}
+
+/// Whether there is room for so much.
+fn fits(answer: &Answer, [numbers, flags, indexes, origins]: Places) -> bool {
+    let [_, _, vertices, raised, segments] = answer.map(|count| count as usize);
+    vertices <= numbers / 3 && raised <= indexes && segments <= flags.min(origins)
 }
 
 /// Whether each place from the counts on holds what it held.

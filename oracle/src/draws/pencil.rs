@@ -3,8 +3,7 @@
 
 mod calls;
 mod out;
-
-mod turns;
+mod vertices;
 mod wrong;
 
 use super::{Pen, Settings};
@@ -31,7 +30,7 @@ enum Stage {
     Ended(usize),
     /// What was answered.
     Refused(Answer),
-    Begun(Begun),
+    Begun(Box<Begun>),
 }
 
 #[derive(Debug, Clone)]
@@ -134,7 +133,7 @@ impl Pen for Pencil {
                 begun.segments = old.segments;
             }
         }
-        self.set(Stage::Begun(begun));
+        self.set(Stage::Begun(Box::new(begun)));
         [0; 5]
     }
 
@@ -153,7 +152,7 @@ impl Pen for Pencil {
         for (given, vertex) in source.chunks_exact(3).enumerate() {
             let vertex = [vertex[0], vertex[1], vertex[2]];
             if self.out_of_room(&begun, given, &out) {
-                self.set(Stage::Begun(begun));
+                self.set(Stage::Begun(Box::new(begun)));
                 return out.answer([4, 0]);
             }
             let mut next = begun.clone();
@@ -166,13 +165,11 @@ impl Pen for Pencil {
             begun = next;
         }
         self.point_with_draw(&begun, &mut out);
-        out.zeros(
-            Wrong::ZerosAfter,
-            begun.settings.each() * (source.len() / 3),
-        );
+        let need = begun.settings.each() * (source.len() / 3);
+        out.zeros(Wrong::ZerosAfter, need);
         let ragged = self.is(Wrong::RaggedTakes) && !source.len().is_multiple_of(3);
         if !source.is_empty() || self.is(Wrong::EmptyChanges) {
-            self.set(Stage::Begun(begun));
+            self.set(Stage::Begun(Box::new(begun)));
         }
         out.answer([u32::from(ragged), 0])
     }

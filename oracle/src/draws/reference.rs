@@ -13,19 +13,14 @@ const MOST_VERTICES: usize = 4096;
 /// For so many segments the end call needs room.
 const END_ROOM: usize = 2;
 
-#[derive(Debug, Clone)]
+#[derive(Debug, Clone, Default)]
 pub enum Reference {
     /// Never begun, or the end call has answered.
+    #[default]
     Idle,
     /// Number and place.
     Refused(u32, u32),
     Begun(Settings, Vec<PlineVertex>),
-}
-
-impl Default for Reference {
-    fn default() -> Self {
-        Self::Idle
-    }
 }
 
 /// What a call has handed out so far.

@@ -163,14 +163,15 @@ impl Pen for Drawing {
         self.bits() == other.bits()
     }
 
-    fn garble(&mut self, mut word: impl FnMut(u32) -> u32) {
-        for number in &mut self.record.numbers {
+    fn garble(&mut self, mut word: impl FnMut(usize, u32) -> u32) {
+        for (i, number) in self.record.numbers.iter_mut().enumerate() {
             let bits = number.to_bits();
-            let [low, high] = [bits, bits >> 32].map(|half| u64::from(word(half as u32)));
+            let low = u64::from(word(2 * i, bits as u32));
+            let high = u64::from(word(2 * i + 1, (bits >> 32) as u32));
             *number = f64::from_bits(high << 32 | low);
         }
-        for place in &mut self.record.words {
-            *place = word(*place);
+        for (i, place) in self.record.words.iter_mut().enumerate() {
+            *place = word(80 + i, *place);
         }
     }
 

@@ -96,7 +96,7 @@ impl Pencil {
             }
         }
         match stage {
-            Stage::Begun(begun) => Ok(begun),
+            Stage::Begun(begun) => Ok(*begun),
             // a wrong reading alone gets here
             _ => Err([0; 5]),
         }
@@ -243,7 +243,7 @@ impl Pencil {
     /// What a draw would hand out.
     fn drawn(&self, begun: &Begun, source: &[f64]) -> [usize; 4] {
         let mut pen = Self::right();
-        pen.set(Stage::Begun(begun.clone()));
+        pen.set(Stage::Begun(Box::new(begun.clone())));
         let places = 3 * source.len();
         let mut buffers = crate::stage::Buffers::of([3 * places, places, places, places]);
         let lent = buffers.lend([3 * places, places, places, places]);

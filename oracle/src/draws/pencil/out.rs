@@ -4,6 +4,9 @@ use super::Wrong;
 use crate::stage::{Answer, Lent};
 use crate::traced::Stroke;
 
+/// Set in a NaN that does not signal.
+const QUIET: u64 = 1 << 51;
+
 /// A vertex, and of the segment that leaves it flag, origin and number.
 type Handed = ([f64; 3], Option<(bool, u32, u32)>);
 
@@ -106,6 +109,11 @@ impl<'a> Out<'a> {
             indexes,
             origins,
         } = self.lent;
+        if let (Wrong::Quiets, Some(last)) = (self.wrong, vertices.last_mut())
+            && last.is_nan()
+        {
+            *last = f64::from_bits(last.to_bits() | QUIET);
+        }
         let [mut vertex_count, mut index_count, mut segment_count] = [0; 3];
         for (vertex, segment) in self.handed {
             let place = 3 * vertex_count;

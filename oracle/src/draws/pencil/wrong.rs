@@ -30,6 +30,7 @@ wrong! {
     EndFlagsPoint: "the last point has a flag and an origin",
     ZerosAfter: "places that are not used are set to zero, as in the whole form",
     EndZerosAfter: "the end sets places that are not used to zero",
+    Quiets: "a NaN in the last place lent is made quiet",
     RatioForgotten: "corners are drawn round in the pointed mode",
     GroupStarts: "the walk starts anew with each call",
     FirstLeft: "the walk's first segment is left out",
@@ -190,6 +191,6 @@ pub const SAME: &[(Wrong, &str)] = &[
     ),
     (
         Wrong::SixEndHalf,
-        "an offset segment whose end is no number starts at none: both are off by one length or one centre",
+        "both ends of an offset segment are numbers or neither is: where the last point is none, the last span leaves none",
     ),
 ];

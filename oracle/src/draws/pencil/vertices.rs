@@ -91,12 +91,13 @@ impl Pencil {
                 due
             }
             Wrong::SpanEarly => {
-                piece.extend(begun.turns.clone().end_of_any().0);
+                let mut turns = begun.turns;
+                piece.extend(turns.end_of_any().0);
                 piece
             }
             Wrong::FirstEarly if begun.vertices == 2 => {
-                let start = begun.turns.clone().end_of_any().0;
-                Vec::from_iter(start)
+                let mut turns = begun.turns;
+                Vec::from_iter(turns.end_of_any().0)
             }
             Wrong::FirstLeft => {
                 piece.retain(|stroke| stroke.origin != 0);
@@ -231,11 +232,7 @@ impl Pencil {
             out.take_back();
         }
         if six && self.is(Wrong::SixHalf) {
-            let half = piece
-                .iter()
-                .take_while(|stroke| self.is_finite(stroke.vertex));
-            let half: Vec<Stroke> = half.copied().collect();
-            out.hand(&half, begun.segments);
+            out.hand(self.finite_half(piece), begun.segments);
         }
         if six {
             out.zeros(Wrong::SixZeros, begun.settings.each() * (given + 1));
@@ -245,10 +242,16 @@ impl Pencil {
             answer[2..].fill(0);
         }
         if self.is(Wrong::RefusalForgotten) || six && self.is(Wrong::SixForgotten) {
-            self.set(Stage::Begun(begun));
+            self.set(Stage::Begun(Box::new(begun)));
             return answer;
         }
         self.refuse(answer)
+    }
+
+    /// What comes before the first that is not finite.
+    fn finite_half<'a>(&self, piece: &'a [Stroke]) -> &'a [Stroke] {
+        let finite = |stroke: &&Stroke| self.is_finite(stroke.vertex);
+        &piece[..piece.iter().take_while(finite).count()]
     }
 
     /// By a wrong reading a draw ends with the point that the walk has come to.
@@ -310,17 +313,13 @@ impl Pencil {
             _ => begun.vertices,
         };
         if self.is(Wrong::SixEndHalf) {
-            let half = strokes
-                .iter()
-                .take_while(|stroke| self.is_finite(stroke.vertex));
-            let half: Vec<Stroke> = half.copied().collect();
-            out.hand(&half, begun.segments);
+            out.hand(self.finite_half(strokes), begun.segments);
         }
         out.zeros(Wrong::SixEndZeros, 2);
         let answer = out.answer([6, place as u32]);
         match self.wrong {
             Wrong::SixEndForgotten => self.set(Stage::Ended(begun.vertices)),
-            Wrong::SixEndLost => self.set(Stage::Begun(begun)),
+            Wrong::SixEndLost => self.set(Stage::Begun(Box::new(begun))),
             _ => self.set(Stage::Refused(answer)),
         }
         answer
