@@ -1,14 +1,15 @@
 //! A script that still shows a difference, with all left out that has no part in it.
 
 use super::{Call, Pen, Script, Tally, hold};
+use std::time::{Duration, Instant};
 
-/// A script is run so often at most.
-const TRIES: usize = 4000;
+/// So long it may take.
+const LONGEST: Duration = Duration::from_secs(20);
 
 struct Shortening<'a, P> {
     pen: &'a P,
     script: Script,
-    tries: usize,
+    began: Instant,
 }
 
 /// Leaves out calls and vertices, and then rounds numbers and lends more, as long as there is a difference.
@@ -16,7 +17,7 @@ pub fn shortened<P: Pen>(pen: &P, script: &[Call]) -> Script {
     let mut shortening = Shortening {
         pen,
         script: script.to_vec(),
-        tries: 0,
+        began: Instant::now(),
     };
     let mut before = usize::MAX;
     while shortening.size() < before {
@@ -37,9 +38,8 @@ impl<P: Pen> Shortening<'_, P> {
 
     /// Takes another script, if it shows a difference too.
     fn take(&mut self, script: Script) -> bool {
-        self.tries += 1;
-        let differs =
-            self.tries < TRIES && hold(self.pen, &script, &mut Tally::default()).is_some();
+        let differs = self.began.elapsed() < LONGEST
+            && hold(self.pen, &script, &mut Tally::default()).is_some();
         if differs {
             self.script = script;
         }

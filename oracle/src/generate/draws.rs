@@ -9,7 +9,7 @@ use super::Random;
 use super::columns::{BAD_EPS, BAD_RATIOS, outside};
 use crate::draws::{Call, Script, Settings};
 use crate::stage::{Job, Places};
-pub use limits::each_limit_script;
+pub use limits::{each_limit_script, each_long_script};
 pub use short::each_short_script;
 
 /// One script in so many runs up to the limit of vertices, or past it.
@@ -272,8 +272,10 @@ fn underflow(random: &mut Random, source: &mut [f64]) {
     }
 }
 
-/// Settings and three vertices whose join has no number.
-const NO_NUMBERS: [(f64, f64, [f64; 9]); 2] = [
+/// An offset, ε, and three vertices whose join has no number.
+type NoNumber = (f64, f64, [f64; 9]);
+
+const NO_NUMBERS: [NoNumber; 2] = [
     (
         0.5000002384185791,
         4.7683715820312495e-7,
@@ -286,16 +288,21 @@ const NO_NUMBERS: [(f64, f64, [f64; 9]); 2] = [
     ),
 ];
 
-/// Puts such vertices among the others, as they are or in the other direction.
+/// Such vertices as they are, or the way back with the offset to the same side.
+fn directed(no_number: &NoNumber, backward: bool) -> (Settings, [f64; 9]) {
+    let (offset, eps, there) = *no_number;
+    let [x, y, a, i, j, b, s, t, c] = there;
+    let back = [s, t, -b, i, j, -a, x, y, c];
+    let (turn, vertices) = if backward { (-1.0, back) } else { (1.0, there) };
+    let (offset, ratio) = (turn * offset, None);
+    (Settings { offset, eps, ratio }, vertices)
+}
+
+/// Puts such vertices among the others.
 fn no_number(random: &mut Random, settings: &mut Settings, source: &mut Vec<f64>) {
-    let (offset, eps, [x, y, a, i, j, b, s, t, c]) = random.pick(&NO_NUMBERS);
-    let (turn, vertices) = if random.one_in(2) {
-        (1.0, [x, y, a, i, j, b, s, t, c])
-    } else {
-        (-1.0, [s, t, -b, i, j, -a, x, y, c])
-    };
-    settings.offset = turn * offset;
-    settings.eps = eps;
+    let backward = random.one_in(2);
+    let (other, vertices) = directed(&random.pick(&NO_NUMBERS), backward);
+    (settings.offset, settings.eps) = (other.offset, other.eps);
     let place = 3 * random.below(source.len() / 3 + 1);
     source.splice(place..place, vertices);
 }

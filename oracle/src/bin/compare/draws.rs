@@ -5,7 +5,7 @@ use crate::jobs::{each_line, each_random_job, each_steered_job, samples, steer};
 use oracle::draws::{
     Call, Difference, Pen, Pencil, SAME, Script, Settings, Tally, WRONG, answers, hold, shortened,
 };
-use oracle::generate::draws::{each_limit_script, each_short_script, script};
+use oracle::generate::draws::{each_limit_script, each_long_script, each_short_script, script};
 use oracle::generate::{FAMILIES, Family, KEYHOLES, POINTED, REASONS, Random, Steering};
 use oracle::stage::Job;
 use oracle::text::{read_script, script_row};
@@ -46,9 +46,9 @@ struct Held<P> {
 /// Runs the scripts at the limits, all short ones, SCRIPTS random ones, and some of about STEERED steered jobs.
 pub fn compare(seed: u64, scripts: u64, steered: u64) -> bool {
     let mut held = Held::new(pen());
+    each_long_script(|script| held.hold("one by one to the limit", script));
     each_script(seed, scripts, steered, |family, script| {
         held.hold(family, script);
-        true
     });
     let never = held.tally.print_never();
     held.agree() && !never
@@ -83,7 +83,6 @@ pub fn wrong(seed: u64, scripts: u64) -> bool {
                 first.get_or_insert_with(|| shortened(&pen, script));
             }
         }
-        true
     });
     let mut as_they_should = true;
     for ((wrong, text), (told, first)) in WRONG.iter().zip(&told) {
@@ -104,18 +103,9 @@ pub fn wrong(seed: u64, scripts: u64) -> bool {
 }
 
 /// Hands out the scripts, with the name of the family.
-fn each_script(
-    seed: u64,
-    scripts: u64,
-    steered: u64,
-    mut take: impl FnMut(&'static str, &Script) -> bool,
-) {
-    each_limit_script(|script| {
-        take("limits", script);
-    });
-    each_short_script(SHORT_CALLS, |script| {
-        take("short", script);
-    });
+fn each_script(seed: u64, scripts: u64, steered: u64, mut take: impl FnMut(&'static str, &Script)) {
+    each_limit_script(|script| take("limits", script));
+    each_short_script(SHORT_CALLS, |script| take("short", script));
     let mut random = Random::new(seed.rotate_left(24));
     let mut last = Job::new(
         false,
