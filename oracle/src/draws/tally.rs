@@ -4,13 +4,13 @@ use super::{Call, Reference, Settings};
 use crate::stage::{Answer, Outcome};
 
 /// The numbers that answer a call.
-pub const NUMBERS: [u32; 8] = [0, 1, 2, 3, 4, 5, 6, 9];
+const NUMBERS: [u32; 8] = [0, 1, 2, 3, 4, 5, 6, 9];
 
 macro_rules! met {
     ($($name:ident: $text:literal,)*) => {
         /// Something that a comparison has to meet.
         #[derive(Debug, Copy, Clone, PartialEq, Eq)]
-        pub enum Met { $($name,)* }
+        pub(super) enum Met { $($name,)* }
 
         const MET: &[(Met, &str)] = &[$((Met::$name, $text),)*];
     };
@@ -69,7 +69,7 @@ met! {
 }
 
 /// A call, as it is counted.
-pub type Kind = &'static str;
+type Kind = &'static str;
 
 const START: Kind = "start";
 const START_POINTED: Kind = "start, pointed";
