@@ -1,15 +1,18 @@
 /*
  * Blidrosk: the raw offset of a drawing of lines and arcs, for cutting tables.
  *
- * Seven functions: blidrosk_raw_offset offsets a drawing, flags the invalid segments of the output
+ * Eleven functions: blidrosk_raw_offset offsets a drawing, flags the invalid segments of the output
  * and names the origin of each; blidrosk_why tells of one output segment what it is and why its
  * flag is set or clear. Both draw outer corners round; blidrosk_raw_offset_pointed and
  * blidrosk_why_pointed draw those between two lines with a point. These four take drawings in rows,
  * three numbers a vertex; blidrosk_raw_offset_columns and blidrosk_raw_offset_columns_pointed
- * offset one that is lent in columns, all x, all y, all bulges, and write columns. blidrosk_part
- * finds the segments of any of these outputs that belong to a source segment. They keep nothing
- * between calls, allocate nothing, and end at any numbers, NaN and infinities included. Link
- * libblidrosk.a, which tools/archive makes. Of the C library it takes memset, and nothing else.
+ * offset one that is lent in columns, all x, all y, all bulges, and write columns.
+ * blidrosk_draw_start or blidrosk_draw_start_pointed, blidrosk_draw_vertices and blidrosk_draw_end
+ * offset an open drawing while its vertices come. blidrosk_part finds the segments of any of these
+ * outputs that belong to a source segment. They keep nothing between calls but what stands in the
+ * record of a drawing that comes by and by, which is the caller's; they allocate nothing, and end
+ * at any numbers, NaN and infinities included. Link libblidrosk.a, which tools/archive makes. Of
+ * the C library it takes memset, and nothing else.
  */
 #ifndef BLIDROSK_H
 #define BLIDROSK_H
@@ -24,8 +27,10 @@ extern "C" {
 
 /*
  * What became of a job or a question. Where several refusals apply, the one with the lowest number
- * is given. blidrosk_raw_offset refuses with 1 to 6, blidrosk_why with these but 4 and with 8, the
- * pointed ones as these two, those in columns as the first, and blidrosk_part with 1 and 13.
+ * is given, save that drawings that come by and by have an order of their own. blidrosk_raw_offset
+ * refuses with 1 to 6, blidrosk_why with these but 4 and with 8, the pointed ones as these two,
+ * those in columns as the first, blidrosk_part with 1 and 13, a start of a drawing that comes by
+ * and by with 3, its vertices with 1 to 6 and 9, and its end with all of these but 1.
  */
 enum blidrosk_number {
     BLIDROSK_DONE = 0,       /* done */
@@ -35,15 +40,17 @@ enum blidrosk_number {
     BLIDROSK_TOO_MANY = 2,   /* more than 4096 vertices */
     BLIDROSK_BAD_NUMBER = 3, /* a NaN, an infinity, or a number out of its range, at `place` */
     BLIDROSK_NO_ROOM = 4,    /* one of the buffers is too short */
-    BLIDROSK_REPEATED = 5,   /* joined vertices equal in x and in y, the earlier at `place` */
+    BLIDROSK_REPEATED = 5,   /* joined vertices equal in x and in y, the earlier at `place`; in
+                                blidrosk_draw_vertices the later */
     BLIDROSK_NOT_FINITE = 6, /* the drawing came out with a NaN or an infinity */
     /* 7 is the program rawoffset's own */
     BLIDROSK_NO_SUCH_SEGMENT = 8, /* the output has no segment of that number */
-    /* 9 to 12 are none of these functions' */
+    BLIDROSK_NO_OPEN_JOB = 9,     /* the record has none: it has ended, or was never begun */
+    /* 10 to 12 are none of these functions' */
     BLIDROSK_NO_SUCH_SOURCE_SEGMENT = 13 /* the source has no segment of that number */
 };
 
-/* Where the five entries of `answer` stand, of each function that offsets a drawing. */
+/* Where the five entries of `answer` stand, of each function that offsets a whole drawing. */
 enum blidrosk_entry {
     BLIDROSK_NUMBER = 0,   /* an enum blidrosk_number */
     BLIDROSK_PLACE = 1,    /* for numbers 3 and 5; 0 otherwise */
@@ -222,6 +229,140 @@ uint32_t blidrosk_raw_offset_columns_pointed(
     size_t out_xs_len, double *out_ys, size_t out_ys_len, double *out_bulges, size_t out_bulges_len,
     uint8_t *flags, size_t flags_len, uint32_t *indexes, size_t indexes_len, uint32_t *origins,
     size_t origins_len, uint32_t answer[5]);
+
+/*
+ * The record of an open drawing whose vertices come by and by, as from a pen that is still moving.
+ * A start begins the job, blidrosk_draw_vertices takes vertices, as many at a time as there are,
+ * and hands out each segment as soon as it is certain, and blidrosk_draw_end hands out the rest.
+ * What is handed out, one piece after the other, is what blidrosk_raw_offset writes for all the
+ * vertices at once, drawn open, however they are grouped into calls: the same vertices, flags,
+ * indexes and origins, bit for bit.
+ *
+ * The record is the caller's. It is lent to each call, which moves it on; nothing is kept
+ * elsewhere. It is opaque: of its contents nothing is promised but the size. It holds no pointer
+ * and nothing that grows, so it may be copied, as by assignment, and each copy goes on by itself.
+ *
+ * Any contents are taken. A record of zeros, {{0}, {0}}, has no open job: every call but a start
+ * answers number 9, as it does for contents whose counts no job can have. Contents that pass for a
+ * job are that job. In each case a call ends, answers, and writes where it may alone.
+ */
+struct blidrosk_drawing {
+    double numbers[40];
+    uint32_t words[16];
+};
+
+/* Where the five entries of `answer` stand, of the four functions that take such a record. */
+enum blidrosk_draw_entry {
+    BLIDROSK_DRAW_NUMBER = 0,   /* an enum blidrosk_number */
+    BLIDROSK_DRAW_PLACE = 1,    /* for numbers 2, 3, 5 and 6, the number of a vertex; 0 otherwise */
+    BLIDROSK_DRAW_VERTICES = 2, /* count of vertices handed out, after a refusal too */
+    BLIDROSK_DRAW_INDEXES = 3,  /* count of indexes handed out, after a refusal too */
+    BLIDROSK_DRAW_SEGMENTS = 4  /* count of segments handed out, and so of flags and of origins */
+};
+
+/*
+ * Begins a drawing with round corners, whatever the record holds: a job that is still open there is
+ * given up. Returns the number of the answer, which is answer[0] too; no count is above 0.
+ *
+ *   offset, eps    as in blidrosk_raw_offset
+ *   answer         receives number, place, and three counts, as enum blidrosk_draw_entry says
+ *
+ * Number 3, place 0: one of them is bad. The record then holds a job that is refused, and not the
+ * one before.
+ */
+uint32_t blidrosk_draw_start(struct blidrosk_drawing *drawing, double offset, double eps,
+                             uint32_t answer[5]);
+
+/*
+ * The same with pointed corners, as blidrosk_raw_offset_pointed draws them. A bad ratio is number
+ * 3, place 0, too.
+ */
+uint32_t blidrosk_draw_start_pointed(struct blidrosk_drawing *drawing, double offset, double eps,
+                                     double ratio, uint32_t answer[5]);
+
+/*
+ * Takes vertices of a drawing that was begun, and hands out what they make certain. Returns the
+ * number of the answer, which is answer[0] too.
+ *
+ *   source, source_len    the next vertices, three numbers each, as in blidrosk_raw_offset; or none
+ *   vertices .. origins   receive what is handed out, each from its first place on
+ *   answer                receives number, place, count of vertices, count of indexes, and count of
+ *                         segments, of this call alone
+ *
+ * What is handed out. Vertices have their numbers in the whole drawing, from 0. With vertex k, from
+ * 2 on, come the span of source segment k - 2 and the connector after it, or both connectors of a
+ * point, as far as they are drawn; the vertices 0 and 1 hand out nothing. A segment is handed out
+ * as the vertex that it leaves, with its bulge; it ends where the next one starts, which may come
+ * with a later call. So there are as many vertices as flags and origins. Indexes and origins are
+ * numbers in the whole drawing too: the first segment of a call has the number of those handed out
+ * before. An offset of zero copies: vertex k, from 1 on, hands out vertex k - 1 as it was given.
+ *
+ * Room. For m vertices 2m places in each buffer, thus 6m doubles, 2m flags, 2m indexes and 2m
+ * origins, and 3m with pointed corners, whatever is handed out, and with an offset of zero too.
+ * Numbers of vertices_len past a multiple of 3 do not count. No vertices need no room and change
+ * nothing.
+ *
+ * Buffers. The places that the counts name are written, from the first on. No other place changes,
+ * and nothing is set to zero.
+ *
+ * Refusals are tested in this order, and not by their numbers:
+ *   - one that has ended the job: the same number and place again, with no counts
+ *   - 9: there is no open job; the place is 0
+ *   - 1: source_len is no multiple of 3; the place is 0
+ *   - 4: a buffer is too short for all vertices lent, before any is taken; the place is 0
+ *   - then vertex by vertex: 2, it would be the 4097th; 3, one of its numbers is bad; 5, it equals
+ *     the vertex before it and the offset is not zero; 6, a number that it would hand out is not
+ *     finite, where the offset is not zero. The place is the number of that vertex.
+ * Each vertex is drawn before the next is looked at. So 2, 3, 5 and 6 come with the counts of what
+ * the vertices before it in the call hand out, which are written as ever; of the refused vertex
+ * nothing is, not a finite part either. They end the job. After 9, 1 and 4 and after a refusal that
+ * is repeated the counts are 0, no place has changed, and the record has its bits of before: mend
+ * the call and go on.
+ *
+ * What a caller owes is what blidrosk_raw_offset asks of each list and of answer, and the same of
+ * the record: it is aligned, holds values, and overlaps none of them.
+ *
+ * A pen draws by a loop; `cut` gets segments as they become certain:
+ *
+ *     struct blidrosk_drawing drawing = {{0}, {0}};
+ *     uint32_t number = blidrosk_draw_start(&drawing, 1, 1e-5, answer);
+ *     while (number == BLIDROSK_DONE && next_vertex(vertex)) {
+ *         number = blidrosk_draw_vertices(&drawing, vertex, 3, vertices, 6, flags, 2, indexes, 2,
+ *                                         origins, 2, answer);
+ *         cut(vertices, answer[BLIDROSK_DRAW_VERTICES]);
+ *     }
+ *     if (number == BLIDROSK_DONE) {
+ *         number = blidrosk_draw_end(&drawing, vertices, 6, flags, 2, indexes, 2, origins, 2,
+ *                                    answer);
+ *         cut(vertices, answer[BLIDROSK_DRAW_VERTICES]);
+ *     }
+ *
+ * With (0, 0) (4, 0) (4, 4), one at a time, the first two hand out nothing, the third (0, 1) with
+ * origin 0, and the end (3, 1) with origin 2 and the last point, (3, 4).
+ */
+uint32_t blidrosk_draw_vertices(struct blidrosk_drawing *drawing, const double *source,
+                                size_t source_len, double *vertices, size_t vertices_len,
+                                uint8_t *flags, size_t flags_len, uint32_t *indexes,
+                                size_t indexes_len, uint32_t *origins, size_t origins_len,
+                                uint32_t answer[5]);
+
+/*
+ * Ends the drawing and hands out the rest: the last span, if it is drawn, and then the last point
+ * with bulge 0, if anything was drawn at all. That is 2 vertices, 1 or 0, and a segment or none. An
+ * offset of zero hands out the last vertex with its own bulge, if there are two or more. Returns
+ * the number of the answer, which is answer[0] too.
+ *
+ * Room is 2 places in each buffer, thus 6 doubles, always, with pointed corners too. Buffers,
+ * answer and what a caller owes are as in blidrosk_draw_vertices.
+ *
+ * Refusals, in this order: one that has ended the job again; 9; 4; and 6 where a number that it
+ * would hand out is not finite. This last one ends the job, with as many vertices as were taken for
+ * its place, no counts, and no place changed. After an end that is done every call but a start
+ * answers 9.
+ */
+uint32_t blidrosk_draw_end(struct blidrosk_drawing *drawing, double *vertices, size_t vertices_len,
+                           uint8_t *flags, size_t flags_len, uint32_t *indexes, size_t indexes_len,
+                           uint32_t *origins, size_t origins_len, uint32_t answer[5]);
 
 /* Whether an origin is a connector's; otherwise it is a span's. */
 static inline bool blidrosk_origin_is_connector(uint32_t origin) { return origin % 2 == 1; }
