@@ -1,6 +1,6 @@
 /*
  * Both modes, round and pointed corners, behind one call each: so a test runs in both. Jobs can be
- * lent in rows and in columns.
+ * lent in rows, in columns, and vertex by vertex.
  */
 #ifndef MODES_H
 #define MODES_H
@@ -91,6 +91,31 @@ static inline uint32_t offset_columns(const struct columns *job, const struct co
         job->closed, job->offset, job->eps, lent->numbers[0], lent->lens[0], lent->numbers[1],
         lent->lens[1], lent->numbers[2], lent->lens[2], lent->flags, lent->lens[3], lent->indexes,
         lent->lens[4], lent->origins, lent->lens[5], answer);
+}
+
+/* Begins a job whose vertices come by and by. */
+static inline uint32_t start_job(struct blidrosk_drawing *drawing, double offset, double eps,
+                                 uint32_t answer[5])
+{
+    if (corners.pointed)
+        return blidrosk_draw_start_pointed(drawing, offset, eps, corners.ratio, answer);
+    return blidrosk_draw_start(drawing, offset, eps, answer);
+}
+
+static inline uint32_t draw_vertices(struct blidrosk_drawing *drawing, const double *source,
+                                     size_t len, const struct buffers *lent, uint32_t answer[5])
+{
+    return blidrosk_draw_vertices(drawing, source, len, lent->vertices, lent->vertices_len,
+                                  lent->flags, lent->flags_len, lent->indexes, lent->indexes_len,
+                                  lent->origins, lent->origins_len, answer);
+}
+
+static inline uint32_t end_job(struct blidrosk_drawing *drawing, const struct buffers *lent,
+                               uint32_t answer[5])
+{
+    return blidrosk_draw_end(drawing, lent->vertices, lent->vertices_len, lent->flags,
+                             lent->flags_len, lent->indexes, lent->indexes_len, lent->origins,
+                             lent->origins_len, answer);
 }
 
 static inline uint32_t ask_job(const struct job *job, uint32_t segment, uint32_t answer[7],
