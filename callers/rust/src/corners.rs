@@ -32,10 +32,26 @@ impl Corners {
     /// assert_eq!(Corners::Pointed { ratio: 2.0 }.room(4, true), 12);
     /// ```
     pub const fn room(self, vertices: usize, closed: bool) -> usize {
-        let places = match self {
+        segments(vertices, closed).saturating_mul(self.places())
+    }
+
+    /// The places that each buffer of [`Pen::draw_into`](crate::Pen::draw_into) needs for so many
+    /// vertices given: two for each, and three where corners are pointed.
+    ///
+    /// ```
+    /// use blidrosk::Corners;
+    ///
+    /// assert_eq!(Corners::Round.draw_room(1), 2);
+    /// assert_eq!(Corners::Pointed { ratio: 2.0 }.draw_room(4), 12);
+    /// ```
+    pub const fn draw_room(self, vertices: usize) -> usize {
+        vertices.saturating_mul(self.places())
+    }
+
+    const fn places(self) -> usize {
+        match self {
             Corners::Round => 2,
             Corners::Pointed { .. } => 3,
-        };
-        segments(vertices, closed).saturating_mul(places)
+        }
     }
 }

@@ -65,6 +65,24 @@
 //! assert_eq!(drawing.flags, [0, 1, 0]);
 //! ```
 //!
+//! An open drawing can be offset while its vertices come: a [`Pen`] takes them, few or many at a time,
+//! and hands out each segment as soon as it is certain. The pieces, joined, are the drawing.
+//!
+//! ```
+//! use blidrosk::{Pen, Piece};
+//!
+//! let mut pen = Pen::start(2.0, 1e-5).expect("good settings");
+//! let mut drawn = Piece::default();
+//! for vertex in [[0.0, 0.0, 0.0], [4.0, 0.0, 0.0], [4.0, 1.0, 0.0]] {
+//!     drawn.append(pen.draw(&vertex).expect("a good vertex"));
+//! }
+//! // the corner is certain, and the last span is not
+//! assert_eq!(drawn.vertices, [0.0, 2.0, 0.0, 4.0, 2.0, 0.0]);
+//! assert_eq!(drawn.indexes, [1]);
+//! drawn.append(pen.end().expect("a good drawing"));
+//! assert_eq!(drawn.vertices[6..], [2.0, 0.0, 0.0, 2.0, 1.0, 0.0]);
+//! ```
+//!
 //! # Nearly full circles and the tolerance
 //!
 //! An output segment that would end less than the tolerance from where it starts, in x and in y, is
@@ -91,6 +109,7 @@ mod columns;
 mod corners;
 mod origin;
 mod part;
+mod pen;
 mod refusal;
 mod why;
 
@@ -101,6 +120,7 @@ pub use columns::{Columns, raw_offset_columns, raw_offset_columns_with};
 pub use corners::Corners;
 pub use origin::Origin;
 pub use part::part;
+pub use pen::{END_ROOM, Handed, Pen, Piece, Stopped};
 pub use refusal::{Bad, Refusal};
 pub use why::{Reason, Rule, Why, why, why_with};
 

@@ -15,21 +15,24 @@ pub enum Refusal {
     TooMany,
     /// A number is a NaN, infinite, or out of its range.
     BadNumber(Bad),
-    /// A buffer has fewer places than [`Corners::room`](crate::Corners::room) says.
+    /// A buffer has fewer places than [`Corners::room`](crate::Corners::room) says, or for a
+    /// [`Pen`](crate::Pen) [`Corners::draw_room`](crate::Corners::draw_room).
     NoRoom,
-    /// This vertex and the one that it is joined to are equal in x and in y; −0 equals 0. The offset
-    /// is not zero.
+    /// This vertex and the next that it is joined to are equal in x and in y; −0 equals 0. The offset
+    /// is not zero. For a [`Pen`](crate::Pen) it is the later of the two, which is the one refused.
     Repeated(usize),
     /// The drawing came out with a NaN or an infinity.
     NotFinite,
     /// The output has no segment of the number that [`why`](crate::why()) or
     /// [`why_with`](crate::why_with()) was asked for.
     NoSuchSegment,
+    /// The [`Pen`](crate::Pen) has ended its drawing.
+    NoOpenJob,
     /// The source has no segment of the number that [`part`](crate::part()) was asked for.
     NoSuchSourceSegment,
 }
 
-/// Which number is bad. More may come, as the ratio did.
+/// Which number is bad. More may come, as the ratio and the setting did.
 #[derive(Clone, Copy, Debug, PartialEq, Eq)]
 #[non_exhaustive]
 pub enum Bad {
@@ -39,6 +42,8 @@ pub enum Bad {
     Eps,
     /// That of [pointed corners](crate::Corners::Pointed).
     Ratio,
+    /// One of the three before: the start of a [`Pen`](crate::Pen) does not tell which.
+    Setting,
 }
 
 impl Refusal {
@@ -53,8 +58,9 @@ impl Refusal {
             5 => Refusal::Repeated(place),
             6 => Refusal::NotFinite,
             8 => Refusal::NoSuchSegment,
+            9 => Refusal::NoOpenJob,
             13 => Refusal::NoSuchSourceSegment,
-            _ => unreachable!("the archive answers 0 to 6, 8 and 13"),
+            _ => unreachable!("the archive answers 0 to 6, 8, 9 and 13"),
         })
     }
 }
@@ -91,6 +97,7 @@ impl fmt::Display for Refusal {
             Refusal::NoSuchSegment => {
                 f.write_str("the offset drawing has no segment of that number")
             }
+            Refusal::NoOpenJob => f.write_str("the drawing has ended: start a new one"),
             Refusal::NoSuchSourceSegment => f.write_str("the source has no segment of that number"),
         }
     }
@@ -106,6 +113,10 @@ impl fmt::Display for Bad {
             Bad::Offset => f.write_str("the offset is out of range: within ±1000000"),
             Bad::Eps => f.write_str("the tolerance is out of range: 1e-9 to 0.01"),
             Bad::Ratio => f.write_str("the ratio of pointed corners is out of range: 1 to 10"),
+            Bad::Setting => f.write_str(
+                "a number is out of range: the offset within ±1000000, the tolerance 1e-9 to 0.01, \
+                 the ratio of pointed corners 1 to 10",
+            ),
         }
     }
 }
