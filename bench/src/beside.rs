@@ -56,6 +56,17 @@ impl Drawn {
 
 /// Prints a row for each kind and count of vertices. The command line has the count of turns.
 pub fn table(program: &str, one: &str, other: &str, figures: impl Fn(Drawn) -> Figures) {
+    table_of(&SIZES, program, one, other, figures);
+}
+
+/// The same with counts of vertices of its own.
+pub fn table_of(
+    sizes: &[usize],
+    program: &str,
+    one: &str,
+    other: &str,
+    figures: impl Fn(Drawn) -> Figures,
+) {
     let turns = match env::args().nth(1).map(|word| word.parse()) {
         None => 100,
         Some(Ok(turns @ 1..)) => turns,
@@ -69,7 +80,7 @@ pub fn table(program: &str, one: &str, other: &str, figures: impl Fn(Drawn) -> F
         "kind      v {first:>11} {second:>11}   {other}/{one}, mean and worst of the drawings; quiet"
     );
     for kind in KINDS {
-        for v in SIZES {
+        for &v in sizes {
             row(kind, v, turns, &figures);
         }
     }
