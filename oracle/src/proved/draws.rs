@@ -1,60 +1,13 @@
 //! The archive's calls for a job drawn vertex by vertex, and the record that is lent to each.
 
+use super::archive::{
+    Record, blidrosk_draw_end, blidrosk_draw_start, blidrosk_draw_start_pointed,
+    blidrosk_draw_vertices,
+};
 use super::{TORN, UNSET};
 use crate::draws::{Pen, Settings};
 use crate::stage::{Answer, Job, Lent};
 use std::array;
-
-/// `struct blidrosk_drawing`: opaque, any contents being a record.
-#[repr(C)]
-#[derive(Debug, Copy, Clone)]
-struct Record {
-    numbers: [f64; 40],
-    words: [u32; 16],
-}
-
-const _: () = assert!(size_of::<Record>() == 384 && align_of::<Record>() == 8);
-
-unsafe extern "C" {
-    fn blidrosk_draw_start(drawing: *mut Record, offset: f64, eps: f64, answer: *mut Answer)
-    -> u32;
-
-    fn blidrosk_draw_start_pointed(
-        drawing: *mut Record,
-        offset: f64,
-        eps: f64,
-        ratio: f64,
-        answer: *mut Answer,
-    ) -> u32;
-
-    fn blidrosk_draw_vertices(
-        drawing: *mut Record,
-        source: *const f64,
-        source_len: usize,
-        vertices: *mut f64,
-        vertices_len: usize,
-        flags: *mut u8,
-        flags_len: usize,
-        indexes: *mut u32,
-        indexes_len: usize,
-        origins: *mut u32,
-        origins_len: usize,
-        answer: *mut Answer,
-    ) -> u32;
-
-    fn blidrosk_draw_end(
-        drawing: *mut Record,
-        vertices: *mut f64,
-        vertices_len: usize,
-        flags: *mut u8,
-        flags_len: usize,
-        indexes: *mut u32,
-        indexes_len: usize,
-        origins: *mut u32,
-        origins_len: usize,
-        answer: *mut Answer,
-    ) -> u32;
-}
 
 /// What stands beside the record, and has to stay.
 const GUARD: [u64; 2] = [0x7ff4_0000_dead_beef, 0xaaaa_aaaa_5555_5555];
