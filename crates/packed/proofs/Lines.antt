@@ -14,7 +14,7 @@ use Rattle.floats.proofs.Choice.{yes, no}
 use Rattle.moves.specs.declared.Origin.{Origin}
 use Rattle.moves.specs.Origins.{originOf, originsIn}
 use Rattle.moves.proofs.Origins.{origins-append, origins-take}
-use Rattle.packed.specs.Text.{_then_, decimalOf, hexOf, space, lineEnd, wordOf, headOf, lineOf, lineAt, linesOf, printed, originLine, originLines, originsText, threeOf, pairOf, toldOf}
+use Rattle.packed.specs.Text.{_then_, decimalOf, hexOf, space, lineEnd, wordOf, headOf, rowOf, lineAt, linesOf, printed, originLine, originLines, originsText, threeOf, pairOf, toldOf}
 use Rattle.packed.proofs.Writing.{sets-next, sets-front, place-next}
 use Rattle.packed.proofs.Digits.{length-digits, length-then}
 
@@ -49,15 +49,13 @@ three-rows l₀ at xs ys zs e p f q g r =
 
 -- ---- the first line
 
-pub head : (count : ℕ) (closed : Bool) (l₀ : List ℕ) {l₁ l₂ l₃ : List ℕ} {i j k : ℕ} →
-    l₁ ≡ sets l₀ 0 (decimalOf 0 then space) → i ≡ 0 + length (decimalOf 0 then space) →
+pub head : (count : ℕ) (closed : Bool) (l₀ : List ℕ) (at : ℕ) {l₁ l₂ l₃ : List ℕ} {i j k : ℕ} →
+    l₁ ≡ sets l₀ at (decimalOf 0 then space) → i ≡ at + length (decimalOf 0 then space) →
     l₂ ≡ sets l₁ i (decimalOf count then space) → j ≡ i + length (decimalOf count then space) →
     l₃ ≡ sets l₂ j (wordOf closed then lineEnd) → k ≡ j + length (wordOf closed then lineEnd) →
-    (k ≡ length (headOf count closed)) × (l₃ ≡ sets l₀ 0 (headOf count closed))
+    (k ≡ at + length (headOf count closed)) × (l₃ ≡ sets l₀ at (headOf count closed))
 unfolding headOf
-head count closed l₀ e p f q g r =
-    let h = three-rows l₀ 0 (decimalOf 0 then space) (decimalOf count then space) (wordOf closed then lineEnd) e p f q g r in
-    (h .0 ∙ zero-add _, h .1)
+head count closed l₀ at e p f q g r = three-rows l₀ at (decimalOf 0 then space) (decimalOf count then space) (wordOf closed then lineEnd) e p f q g r
 
 -- ---- the line of a vertex
 
@@ -68,15 +66,15 @@ length-hex x = length-digits 16 16 (toBits binary64 x)
 length-number : (x : Float) (e : ℕ) → length (hexOf x then e) ≡ 17
 length-number x e = length-then (hexOf x) e ∙ ap (λ k. k + 1) (length-hex x)
 
-pub length-line : (x y b : Float) (mark : ℕ) → length (lineOf x y b mark) ≡ 53
-unfolding lineOf
-length-line x y b mark = simp (length-append, length-hex)
+pub length-row : (x y b : Float) (mark end : ℕ) → length (rowOf x y b mark end) ≡ 53
+unfolding rowOf
+length-row x y b mark end = simp (length-append, length-hex)
 
-pub line : (x y b : Float) (mark : ℕ) (l₀ : List ℕ) (at : ℕ) {l₁ l₂ l₃ l₄ : List ℕ} →
+pub line : (x y b : Float) (mark end : ℕ) (l₀ : List ℕ) (at : ℕ) {l₁ l₂ l₃ l₄ : List ℕ} →
     l₁ ≡ sets l₀ at (hexOf x then space) → l₂ ≡ sets l₁ (at + 17) (hexOf y then space) → l₃ ≡ sets l₂ (at + 34) (hexOf b then space) →
-    l₄ ≡ sets l₃ (at + 51) (mark ∷ lineEnd ∷ []) → l₄ ≡ sets l₀ at (lineOf x y b mark)
-unfolding lineOf
-line x y b mark l₀ at e f g h =
+    l₄ ≡ sets l₃ (at + 51) (mark ∷ end ∷ []) → l₄ ≡ sets l₀ at (rowOf x y b mark end)
+unfolding rowOf
+line x y b mark end l₀ at e f g h =
     let i = length-number x space in
     let j = length-number y space in
     let k = length-number b space in
@@ -86,14 +84,14 @@ line x y b mark l₀ at e f g h =
     let p : at + 17 ≡ at + length u = omega arith in
     let q : at + 34 ≡ at + length (u ++ v) = omega (arith, length-append u v) in
     let r : at + 51 ≡ at + length (u ++ v ++ w) = omega (arith, length-append u v, length-append (u ++ v) w) in
-    sets-next l₀ at (u ++ v ++ w) (mark ∷ lineEnd ∷ []) (sets-next l₀ at (u ++ v) w (sets-next l₀ at u v e p f) q g) r h
+    sets-next l₀ at (u ++ v ++ w) (mark ∷ end ∷ []) (sets-next l₀ at (u ++ v) w (sets-next l₀ at u v e p f) q g) r h
 
 pub length-lines : (count : ℕ) (closed : Bool) (vertices : List Float) (flags : List ℕ) (k : ℕ) → length (linesOf count closed vertices flags k) ≡ 53 * k
 unfolding linesOf lineAt
 length-lines count closed vertices flags zero = refl
 length-lines count closed vertices flags (suc k) =
     let l = length-lines count closed vertices flags k in
-    rw (length-append, length-line) (omega arith)
+    rw (length-append, length-row) (omega arith)
 
 -- ---- what is told of an output segment
 

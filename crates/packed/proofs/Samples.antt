@@ -13,11 +13,11 @@ use Rattle.segments.specs.Modes.{roundBy, pointedBy}
 use Rattle.packed.specs.declared.unpacked.Form.the-variants.{Round, Pointed, Either}
 use Rattle.packed.specs.declared.unpacked.Packed.the-variants.{Job, Malformed}
 use Rattle.packed.specs.Packed.{headerOf, closedOf, zeroOf, countOf, offsetOf, epsOf, numbersOf, sourceOf, wellFormed, packedOf, decoded, decodedBy, jobIn, cornersIn, decodedOf}
-use Rattle.packed.specs.Text.{ascii, placesOf, decimalOf, hexOf, refusalOf, headOf, markOf, lineOf, lineAt, linesOf, textOf, printed, printedOf, originLine, originLines, originsText, threeOf, pairOf, toldOf}
+use Rattle.packed.specs.Text.{ascii, placesOf, decimalOf, hexOf, refusalOf, headOf, markOf, rowOf, lineAt, linesOf, textOf, printed, printedOf, originLine, originLines, originsText, threeOf, pairOf, toldOf}
 
 -- all that the samples look through
 unfoldable texts : Unit {0}
-unfolding when_give_else_ _and_ toBits placesOf decimalOf hexOf refusalOf headOf markOf lineOf lineAt linesOf textOf printed originLine originLines originsText threeOf pairOf toldOf
+unfolding when_give_else_ _and_ toBits placesOf decimalOf hexOf refusalOf headOf markOf rowOf lineAt linesOf textOf printed originLine originLines originsText threeOf pairOf toldOf
 texts = tt
 
 unfoldable pub opened : Unit {0}

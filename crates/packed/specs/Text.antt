@@ -55,9 +55,13 @@ headOf count closed = (decimalOf 0 then space) ++ (decimalOf count then space) +
 unfoldable pub markOf : Bool → ℕ → ℕ
 markOf last flag = when last give code "-" else when eqb flag 1 give code "!" else code "."
 
+-- x, y and bulge by their bits, a mark, and the byte after it
+unfoldable pub rowOf : Float → Float → Float → ℕ → ℕ → List ℕ
+rowOf x y bulge mark end = (hexOf x then space) ++ (hexOf y then space) ++ (hexOf bulge then space) ++ (mark ∷ end ∷ [])
+
 -- 01 §5: a vertex's line is x, y and bulge by their bits, and the mark of the segment that leaves it
-unfoldable pub lineOf : Float → Float → Float → ℕ → List ℕ
-lineOf x y bulge mark = (hexOf x then space) ++ (hexOf y then space) ++ (hexOf bulge then space) ++ (mark ∷ lineEnd ∷ [])
+abbrev pub lineOf : Float → Float → Float → ℕ → List ℕ
+lineOf x y bulge mark = rowOf x y bulge mark lineEnd
 
 -- the line of vertex i: no segment leaves the last of an open answer
 unfoldable pub lineAt : ℕ → Bool → List Float → List ℕ → ℕ → List ℕ

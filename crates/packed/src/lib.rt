@@ -3,7 +3,11 @@
 mod text;
 mod unpacked;
 
+pub use text::mark_of;
 pub use text::put_answer;
+pub use text::put_head;
+pub use text::put_line;
+pub use text::put_origin;
 pub use text::put_origins;
 pub use text::put_refusal;
 pub use text::put_told;

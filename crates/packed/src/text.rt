@@ -10,7 +10,7 @@ ghost use lib.Seq.{sets};
 ghost use Rattle.floats.specs.Choice.{_and_};
 ghost use Rattle.io.specs.Counts.{Counts};
 ghost use Rattle.moves.specs.Origins.{originsIn};
-ghost use Rattle.packed.specs.Text.{_then_, decimalOf, hexOf, lineEnd, lineOf, markOf, linesOf, wordOf, headOf, refusalOf, printed, printedOf, originLine, originLines, originsText, threeOf, pairOf, toldOf};
+ghost use Rattle.packed.specs.Text.{_then_, decimalOf, hexOf, lineEnd, rowOf, markOf, linesOf, wordOf, headOf, refusalOf, printed, printedOf, originLine, originLines, originsText, threeOf, pairOf, toldOf};
 use moves::Origin;
 
 // A refusal: its number and its place. Answers the length of the text.
@@ -84,18 +84,19 @@ pub fn put_answer(
     if count > 1536 {
         return 0;
     }
-    let at = put_head(count as u64, closed, out);
+    let at = put_head(count as u64, closed, out, 0);
     put_lines(count, closed, vertices, flags, out, at);
     at + 53 * count
 }
 
-fn put_head(count: u64, closed: bool, out: &mut [u8]) -> usize
-    requires { ⌜ 49 ≤ length (now out) ⌝ }
-    ensures { λ r. ⌜ r ≡ length (headOf count closed) ⌝ }
-    ensures { λ r. ⌜ r ≤ 49 ⌝ }
-    ensures { λ _. ⌜ now (out .exit) ≡ sets (now (out .entry)) 0 (headOf count closed) ⌝ }
+// The line of an answer's count and its closed mark. Answers the place past it.
+pub fn put_head(count: u64, closed: bool, out: &mut [u8], at: usize) -> usize
+    requires { ⌜ at + 49 ≤ length (now out) ⌝ }
+    ensures { λ r. ⌜ r ≡ at + length (headOf count closed) ⌝ }
+    ensures { λ r. ⌜ r ≤ at + 49 ⌝ }
+    ensures { λ _. ⌜ now (out .exit) ≡ sets (now (out .entry)) at (headOf count closed) ⌝ }
 {
-    let done = put_decimal(0, b' ', out, 0);
+    let done = put_decimal(0, b' ', out, at);
     let at = put_decimal(count, b' ', out, done);
     put_closed(closed, out, at)
 }
@@ -129,6 +130,7 @@ fn put_lines(count: usize, closed: bool, vertices: &[f64], flags: &[u8], out: &m
             vertices[j + 1],
             vertices[j + 2],
             mark,
+            b'\n',
             out,
             at + 53 * i,
         );
@@ -143,7 +145,8 @@ fn is_last(count: usize, closed: bool, i: usize) -> bool
     !closed && i + 1 == count
 }
 
-fn mark_of(last: bool, flag: u8) -> u8
+// The mark of the segment that leaves a vertex.
+pub fn mark_of(last: bool, flag: u8) -> u8
     ensures { λ r. ⌜ r ≡ markOf last flag ⌝ }
 {
     if last {
@@ -155,22 +158,23 @@ fn mark_of(last: bool, flag: u8) -> u8
     b'.'
 }
 
-fn put_line(x: f64, y: f64, bulge: f64, mark: u8, out: &mut [u8], at: usize)
+// A vertex's numbers by their bits, the mark of the segment that leaves it, and the byte after that.
+pub fn put_line(x: f64, y: f64, bulge: f64, mark: u8, end: u8, out: &mut [u8], at: usize)
     requires { ⌜ at + 53 ≤ length (now out) ⌝ }
-    ensures { λ _. ⌜ now (out .exit) ≡ sets (now (out .entry)) at (lineOf x y bulge mark) ⌝ }
+    ensures { λ _. ⌜ now (out .exit) ≡ sets (now (out .entry)) at (rowOf x y bulge mark end) ⌝ }
 {
     put_hex(x, b' ', out, at);
     put_hex(y, b' ', out, at + 17);
     put_hex(bulge, b' ', out, at + 34);
-    put_mark(mark, out, at + 51);
+    put_mark(mark, end, out, at + 51);
 }
 
-fn put_mark(mark: u8, out: &mut [u8], at: usize)
+fn put_mark(mark: u8, end: u8, out: &mut [u8], at: usize)
     requires { ⌜ at + 2 ≤ length (now out) ⌝ }
-    ensures { λ _. ⌜ now (out .exit) ≡ sets (now (out .entry)) at (mark ∷ lineEnd ∷ []) ⌝ }
+    ensures { λ _. ⌜ now (out .exit) ≡ sets (now (out .entry)) at (mark ∷ end ∷ []) ⌝ }
 {
     out[at] = mark;
-    out[at + 1] = b'\n';
+    out[at + 1] = end;
 }
 
 // The origins of the output segments: a line for their count, and a line for each. Answers the length of the text: 0,
@@ -204,7 +208,7 @@ fn put_origin_lines(count: usize, origins: &[u32], out: &mut [u8], at: usize) ->
 }
 
 // The line of one output segment. Answers the place past it.
-fn put_origin(origin: Origin, out: &mut [u8], at: usize) -> usize
+pub fn put_origin(origin: Origin, out: &mut [u8], at: usize) -> usize
     requires { ⌜ at + 31 ≤ length (now out) ⌝ }
     ensures { λ r. ⌜ r ≡ at + length (originLine origin) ⌝ }
     ensures { λ r. ⌜ r ≤ at + 31 ⌝ }

@@ -20,7 +20,7 @@ returns-2 c =
     let h = c .before .before .before .before .put-head in
     let n = length-lines (a .count) (a .closed) (a .vertices .now) (a .flags .now) (a .count) in
     rw (← printed-text (a .count) (textOf (a .count) (a .closed) (a .vertices .now) (a .flags .now)) (c .before .before .before .before .before .before .if1 .left))
-    (two-rows (a .out .now) (headOf (a .count) (a .closed)) (linesOf (a .count) (a .closed) (a .vertices .now) (a .flags .now) (a .count)) (h .ensures .1 .1) (h .ensures .0) (c .put-lines .ensures) (omega arith) (omega arith))
+    (two-rows (a .out .now) (headOf (a .count) (a .closed)) (linesOf (a .count) (a .closed) (a .vertices .now) (a .flags .now) (a .count)) (h .ensures .1 .1) (omega arith) (c .put-lines .ensures) (omega arith) (omega arith))
 
 pub put-answer-spec : {M : Type 1} → statement M
 put-answer-spec =

@@ -11,7 +11,7 @@ returns c =
     let d = c .before .before .before .before .before .before .before .before .before .before .put-decimal in
     let e = c .before .before .before .before .before .before .put-decimal2 in
     let f = c .before .before .put-closed in
-    let h = head (a .count) (a .closed) (a .out .now) (d .ensures .1 .1) (d .ensures .0) (e .ensures .1 .1) (e .ensures .0) (f .ensures .1 .1) (f .ensures .0) in
+    let h = head (a .count) (a .closed) (a .out .now) (a .at) (d .ensures .1 .1) (d .ensures .0) (e .ensures .1 .1) (e .ensures .0) (f .ensures .1 .1) (f .ensures .0) in
     (h .0, (omega arith, h .1))
 
 pub put-head-spec : {M : Type 1} → statement M

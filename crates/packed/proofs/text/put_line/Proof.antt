@@ -7,7 +7,7 @@ use Rattle.packed.proofs.text.put_line.Tie as tie
 returns : tie.Need-returns
 returns c =
     let a = c .before .before .before .before .before .before .before .before .before .before .before .before .before .before .before .before .before .args in
-    line (a .x) (a .y) (a .bulge) (a .mark) (a .out .now) (a .at)
+    line (a .x) (a .y) (a .bulge) (a .mark) (a .end) (a .out .now) (a .at)
     (c .before .before .before .before .before .before .before .before .before .before .before .before .before .before .put-hex .ensures)
     (c .before .before .before .before .before .before .before .before .before .before .put-hex2 .ensures)
     (c .before .before .before .before .before .before .put-hex3 .ensures)
