@@ -97,3 +97,9 @@ function plain(s,    e, d) {
     while (length(d) < e + 1) d = d "0"
     return substr(d, 1, e + 1) (length(d) > e + 1 ? "." substr(d, e + 2) : "")
 }
+
+# escaped(DIGITS): the bytes of hexadecimal digits as octal escapes, for printf
+function escaped(digits,    i, s) {
+    for (i = 1; i < length(digits); i += 2) s = s sprintf("\\%03o", hex(substr(digits, i, 2)))
+    return s
+}

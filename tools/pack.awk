@@ -18,11 +18,6 @@ function number(word,    double) {
     return double
 }
 
-function escaped(digits,    i, s) {
-    for (i = 1; i < length(digits); i += 2) s = s sprintf("\\%03o", hex(substr(digits, i, 2)))
-    return s
-}
-
 BEGIN { setting["offset"] = bits("0"); setting["eps"] = bits("1e-5"); setting["ratio"] = "" }
 
 { sub(/\r$/, "") }
