@@ -602,6 +602,20 @@ static void test_many(void)
             test_drawn_by(both[i], GROUPS + k, false);
         }
     }
+    /* a saw whose teeth are too narrow, so that most indexes come in late calls of many vertices */
+    const struct groups wide[] = {{1, {1000}}, {2, {17, 300}}, {1, {64}}};
+    const struct job saw = {"a saw", source, 3 * MOST, false, 0.75, 1e-5};
+    for (size_t i = 0; i < MOST; i++) {
+        source[3 * i] = 0.25 * (double)i;
+        source[3 * i + 1] = (double)(i % 2);
+        source[3 * i + 2] = i % 5 == 0 ? 0.5 : 0;
+    }
+    name = saw.name;
+    draw_whole(&saw, MOST);
+    for (size_t i = 0; i < sizeof wide / sizeof *wide; i++) {
+        start_over(saw.offset, saw.eps, BLIDROSK_DONE);
+        test_drawn_by(&saw, wide + i, false);
+    }
     /* one by one, all at once with room for them, and in pairs; bad numbers come after it */
     name = more.name;
     for (size_t i = 0; i < 4; i++) {

@@ -625,6 +625,23 @@ fn the_most_vertices_are_taken_and_one_more_is_not() {
     }
 }
 
+/// Most indexes come in late calls of many vertices.
+#[test]
+fn a_long_saw_gives_the_whole() {
+    let tooth = |i: usize| {
+        let bulge = [0.5, 0.0, 0.0, 0.0, 0.0][i % 5];
+        [0.25 * i as f64, (i % 2) as f64, bulge]
+    };
+    let saw: Vec<_> = (0..MOST_VERTICES).map(tooth).collect();
+    for corners in BOTH {
+        let settings = by(0.75, corners);
+        assert!(settings.whole(&saw).expect("a good job").indexes.len() > 1000);
+        for sizes in [&[1000][..], &[17, 300], &[64]] {
+            assert_drawn(&saw, settings, sizes);
+        }
+    }
+}
+
 #[test]
 fn room_is_tested_in_each_buffer() {
     for corners in BOTH {
