@@ -316,8 +316,8 @@ uint32_t blidrosk_draw_start_pointed(struct blidrosk_drawing *drawing, double of
  * Each vertex is drawn before the next is looked at. So 2, 3, 5 and 6 come with the counts of what
  * the vertices before it in the call hand out, which are written as ever; of the refused vertex
  * nothing is, not a finite part either. They end the job. After 9, 1 and 4 and after a refusal that
- * is repeated the counts are 0, no place has changed, and the record has its bits of before: mend
- * the call and go on.
+ * is repeated the counts are 0, no place has changed, and the record has its bits of before. So
+ * after 1 and 4 mend the call and go on; after all others a start alone begins anew.
  *
  * What a caller owes is what blidrosk_raw_offset asks of each list and of answer, and the same of
  * the record: it is aligned, holds values, and overlaps none of them.
