@@ -234,9 +234,9 @@ uint32_t blidrosk_raw_offset_columns_pointed(
  * The record of an open drawing whose vertices come by and by, as from a pen that is still moving.
  * A start begins the job, blidrosk_draw_vertices takes vertices, as many at a time as there are,
  * and hands out each segment as soon as it is certain, and blidrosk_draw_end hands out the rest.
- * What is handed out, one piece after the other, is what blidrosk_raw_offset writes for all the
- * vertices at once, drawn open, however they are grouped into calls: the same vertices, flags,
- * indexes and origins, bit for bit.
+ * What is handed out, one piece after the other, is what blidrosk_raw_offset, or the pointed one,
+ * draws of all the vertices at once, open, where it is done, however they are grouped into calls:
+ * the same vertices, flags, indexes and origins, bit for bit.
  *
  * The record is the caller's. It is lent to each call, which moves it on; nothing is kept
  * elsewhere. It is opaque: of its contents nothing is promised but the size. It holds no pointer
