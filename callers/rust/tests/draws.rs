@@ -619,6 +619,13 @@ fn the_most_vertices_are_taken_and_one_more_is_not() {
             let wanted = piece_of(&whole, settings, 0, MOST_VERTICES);
             assert_piece(&stopped.piece, &wanted);
             assert_shut(&mut pen, Refusal::TooMany, MOST_VERTICES);
+            // and in a call of its own
+            let (most, more) = vertices.split_at(MOST_VERTICES);
+            let mut pen = settings.pen();
+            assert_draws(&mut pen, settings, most.as_flattened(), &wanted);
+            let stopped = pen.draw(&more[0]).expect_err("too many");
+            assert_eq!(stopped.piece, Piece::default());
+            assert_shut(&mut pen, Refusal::TooMany, MOST_VERTICES);
         }
         // too many comes before its numbers
         vertices[MOST_VERTICES] = [f64::NAN; 3];
