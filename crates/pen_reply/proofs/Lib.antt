@@ -1,2 +1,4 @@
 pub mod Steps
 pub mod Rows
+pub mod Kept
+pub mod Samples
