@@ -64,7 +64,7 @@ def read(path):
 def snake(name):
     """Lower camel words in snake case; a word that begins with a capital names a type or a fact, and stays."""
     turn = lambda m: "_" + m[0].lower()
-    parts = [re.sub(r"(?<=[a-z0-9])[A-Z]", turn, p) if p[:1].islower() else p for p in name.split("-")]
+    parts = [re.sub(r"(?<=[a-z0-9_])[A-Z]", turn, re.sub(r"(?<=[A-Z])[A-Z](?=[a-z])", lambda m: "_" + m[0].lower(), p)) if p[:1].islower() else p for p in name.split("-")]
     return "-".join(parts).replace("′", "'")
 
 

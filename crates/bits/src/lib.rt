@@ -1,5 +1,7 @@
 // A number as its bit pattern and back, at every input. The language's own conversions are not
 // defined at a NaN, so a NaN is made and told here by a test.
+#![tactic(auto)]
+
 ghost use Rattle.std.specs.Prelude.{◌≡◌};
 ghost use Rattle.std.specs.Float.{binary64};
 ghost use Rattle.std.specs.Float.Ieee.{of_bits, to_bits};

@@ -1,4 +1,6 @@
 // The stage with round corners, for callers in C and Rust: one function, by its C name.
+#![tactic(auto)]
+
 ghost use Rattle.std.specs.Prelude.{◌≡◌};
 ghost use Rattle.segments.specs.Modes.{round_by};
 ghost use Rattle.source.specs.Source.{rows};

@@ -1,4 +1,6 @@
 // Two outputs side by side, for callers in C and Rust: one function, by its C name.
+#![tactic(auto)]
+
 ghost use Rattle.std.specs.Prelude.{◌≡◌};
 ghost use Rattle.compare.specs.Compare.{output, compare_of};
 ghost use Rattle.blidrosk_compare.specs.Handed.{handed, handed_of};

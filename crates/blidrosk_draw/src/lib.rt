@@ -1,6 +1,8 @@
 // The calls of an open job whose vertices are drawn, for callers in C and Rust, by their C names. The record of the
 // job is lent to each call and moved on there. The work is done by value: each exported function is a
 // thin call that takes the record out, calls a function of this crate, and puts what came back in its place.
+#![tactic(auto)]
+
 ghost use Rattle.std.specs.Prelude.{◌≡◌};
 ghost use Rattle.segments.specs.Modes.{round_by, pointed_by};
 ghost use Rattle.source.specs.Source.{rows};
@@ -13,7 +15,7 @@ use pieces::Called;
 use segments::Settings;
 
 // The record after a call, and the number returned.
-#[derive(Drop)]
+#[derive(Clone, Copy)]
 pub struct Handed {
     pub job: pieces::OpenJob,
     pub number: u32,

@@ -1,4 +1,6 @@
 // Which part of an output a source segment became, for callers in C and Rust: one function, by its C name.
+#![tactic(auto)]
+
 ghost use Rattle.std.specs.Prelude.{◌≡◌, length};
 ghost use Rattle.moves.specs.Origins.{origins_in};
 ghost use Rattle.part.specs.Part.{part_answer};

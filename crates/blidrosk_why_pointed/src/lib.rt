@@ -1,5 +1,7 @@
 // Why an output segment's flag is set or clear in a job with pointed corners, for callers in C and Rust: one function, by its
 // C name. It is a crate of its own, so that its walk is compiled apart from the one that draws.
+#![tactic(auto)]
+
 ghost use Rattle.std.specs.Prelude.{◌≡◌};
 ghost use Rattle.segments.specs.Modes.{pointed_by};
 ghost use Rattle.source.specs.Source.{rows};

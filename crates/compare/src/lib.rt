@@ -1,5 +1,7 @@
 // Two outputs with flags, side by side (02's 2026-03): which vertices differ and in what, how many only one of
 // the two has, and whether the closed marks differ. Numbers are compared by their bits.
+#![tactic(auto)]
+
 ghost use Rattle.std.specs.Prelude.{◌≡◌, map, ℕ, ◌+◌, ◌≤◌, ◌<◌, length};
 ghost use Rattle.std.proofs.lemmas.List.Edits.{sets};
 ghost use Rattle.source.specs.Source.{vertices_of};
@@ -11,7 +13,7 @@ use refusals::Refusal;
 const MOST_VERTICES: usize = 12288;
 
 // Which of a vertex's numbers differ, and whether the flag of the segment that leaves it does.
-#[derive(Drop)]
+#[derive(Clone, Copy)]
 pub struct Fields {
     pub x: bool,
     pub y: bool,
@@ -35,7 +37,7 @@ impl Fields {
 }
 
 // How many vertices are listed, how many only one output has, and whether the closed marks differ.
-#[derive(Drop)]
+#[derive(Clone, Copy)]
 pub struct Differences {
     pub listed: u32,
     pub unmatched: u32,
@@ -64,7 +66,7 @@ impl Differences {
     }
 }
 
-#[derive(Drop)]
+#[derive(Clone, Copy)]
 pub enum CompareAnswer {
     Compared(Differences),
     Refused(Refusal),

@@ -27,7 +27,7 @@ use Rattle.moves.specs.InnerSteps.{Fits}
 use Rattle.moves.proofs.Kept.{length-kept}
 use Rattle.moves.proofs.Lists.{length-corners, length-flags_of, length-marks, length-origins_of}
 use Rattle.moves.proofs.Shapes.{nothing-fits}
-use Rattle.walk.specs.Walk.{moves_aSegment, open_last}
+use Rattle.walk.specs.Walk.{moves_a_segment, open_last}
 use Rattle.walk.proofs.Lengths.{two-moves, joined-few}
 use Rattle.course.specs.declared.Course.{Course}
 use Rattle.course.specs.Course.{piece_from, ◌then◌, segment_in, Step, held, entered, turn_moves, turned, copy_of, copies, step_on, refusal_of, Drawn, draw_one, draw_all, none_drawn, last_piece, end_piece}
@@ -80,10 +80,10 @@ module _ (σ : Settings) (c : PlineVertex) (d : Drawn) where
 
 pub record Counts (σ : Settings) (w : Course) : Type 0 where
   pub taken : w.taken ≤ 4096
-  pub number : w.number ≤ moves_aSegment σ.corners * (w.taken - 2)
+  pub number : w.number ≤ moves_a_segment σ.corners * (w.taken - 2)
 
 -- the moves of a turn, and those that are kept
-turn-few : (σ : Settings) (w : Course) (c : PlineVertex) → length (kept σ.eps w.point (turn_moves σ w c)) ≤ moves_aSegment σ.corners
+turn-few : (σ : Settings) (w : Course) (c : PlineVertex) → length (kept σ.eps w.point (turn_moves σ w c)) ≤ moves_a_segment σ.corners
 unfolding turn_moves
 turn-few σ w c =
     let i = w.taken - 2 in
@@ -100,7 +100,7 @@ taken-below σ w c e = by (leb 4096 w.taken) _ refl e
 
 module _ (σ : Settings) (w : Course) (c : PlineVertex) (counts : Counts σ w) (below : w.taken < 4096) where
   abbrev m : ℕ
-  m = moves_aSegment σ.corners
+  m = moves_a_segment σ.corners
 
   same_number : w.number ≤ m * (w.taken + 1 - 2)
   same_number = omega (arith, counts.number, mul-le-mul_left {m = w.taken - 2} {n = w.taken + 1 - 2} m (omega arith))
@@ -149,31 +149,31 @@ copies-fit room w h = by (eqb w.taken 0)
     by true = nothing-fits room
     by false = record { vertices = omega arith; flags = omega arith; indexes = omega arith; origins = omega arith }
 
-step_fits : (σ : Settings) (w : Course) (c : PlineVertex) → Fits (moves_aSegment σ.corners) (step_on σ w c).piece
+step_fits : (σ : Settings) (w : Course) (c : PlineVertex) → Fits (moves_a_segment σ.corners) (step_on σ w c).piece
 unfolding turned
 step_fits σ w c =
-    step_by (λ (s : Step). Fits (moves_aSegment σ.corners) s.piece) σ w c (λ z. copies-fit _ w (omega (arith, two-moves σ.corners))) (λ z n. nothing-fits _) (λ z n. nothing-fits _)
+    step_by (λ (s : Step). Fits (moves_a_segment σ.corners) s.piece) σ w c (λ z. copies-fit _ w (omega (arith, two-moves σ.corners))) (λ z n. nothing-fits _) (λ z n. nothing-fits _)
     (λ z n. piece-fits _ w.point w.number _ (turn-few σ w c))
 
 more-fits : (m n : ℕ) (d : Drawing) → m ≤ n → Fits m d → Fits n d
 more-fits m n d h f = record { vertices = omega (arith, f.vertices); flags = omega (arith, f.flags); indexes = omega (arith, f.indexes); origins = f.origins }
 
-one-fits : (σ : Settings) (c : PlineVertex) (d : Drawn) (n : ℕ) → Fits n d.piece → Fits (n + moves_aSegment σ.corners) (draw_one σ c d).piece
+one-fits : (σ : Settings) (c : PlineVertex) (d : Drawn) (n : ℕ) → Fits n d.piece → Fits (n + moves_a_segment σ.corners) (draw_one σ c d).piece
 one-fits σ c d n f =
-    let m = moves_aSegment σ.corners in
+    let m = moves_a_segment σ.corners in
     let still = more-fits n (n + m) d.piece (omega arith) f in
     one-by σ c d (λ (e : Drawn). Fits (n + m) e.piece) (λ h. still) (λ h e. then-fits n m d.piece _ f (step_fits σ d.course c)) (λ h e. still)
 
-all_more : (σ : Settings) (vs : List PlineVertex) (d : Drawn) (n : ℕ) → Fits n d.piece → Fits (n + moves_aSegment σ.corners * length vs) (draw_all σ vs d).piece
+all_more : (σ : Settings) (vs : List PlineVertex) (d : Drawn) (n : ℕ) → Fits n d.piece → Fits (n + moves_a_segment σ.corners * length vs) (draw_all σ vs d).piece
 unfolding draw_all
 all_more σ [] d n f = more-fits n _ d.piece (omega arith) f
 all_more σ (c ∷ vs) d n f =
-    let m = moves_aSegment σ.corners in
+    let m = moves_a_segment σ.corners in
     let e : n + m + m * length vs ≡ n + m * suc (length vs) = omega arith in
     rw e at (all_more σ vs (draw_one σ c d) (n + m) (one-fits σ c d n f))
 
 -- two or three segments a vertex
-pub all_fit : (σ : Settings) (vs : List PlineVertex) (w : Course) → Fits (moves_aSegment σ.corners * length vs) (draw_all σ vs (none_drawn w)).piece
+pub all_fit : (σ : Settings) (vs : List PlineVertex) (w : Course) → Fits (moves_a_segment σ.corners * length vs) (draw_all σ vs (none_drawn w)).piece
 all_fit σ vs w = rw zero-add at (all_more σ vs (none_drawn w) 0 (nothing-fits 0))
 
 -- and two vertices at the end

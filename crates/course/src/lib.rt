@@ -1,6 +1,8 @@
 // An open job as its vertices are drawn, by value: what is held between two vertices, and the strokes that
 // each vertex and the end make certain. The turns are the walk's own; the walk is taken up at each vertex,
 // with its segment worked out anew from the two vertices that are held.
+#![tactic(auto)]
+
 ghost use Rattle.std.specs.Prelude.{◌≡◌, [], ◌+◌, ◌≤◌, ◌<◌, eqb, ltb};
 ghost use Rattle.floats.specs.Choice.{◌and◌};
 ghost use Rattle.segments.specs.Segment.{offset_seg, is_collapsed};
@@ -23,7 +25,7 @@ use walk::Walk;
 // What is held: the last two vertices, the parameter where the span between them starts, the last kept
 // point, how many vertices are taken, and the number of the next output segment.
 #[repr(C)]
-#[derive(Drop)]
+#[derive(Clone, Copy)]
 pub struct Course {
     pub before: PlineVertex,
     pub last: PlineVertex,
@@ -34,7 +36,7 @@ pub struct Course {
 }
 
 // What a vertex makes certain: up to three strokes, each of them drawn or not, and what is held then.
-#[derive(Drop)]
+#[derive(Clone, Copy)]
 pub struct Turning {
     pub course: Course,
     pub span: Stepped,
@@ -43,7 +45,7 @@ pub struct Turning {
 }
 
 // What the end makes certain: the last span, drawn or not, and a last vertex, if it `ends` with one.
-#[derive(Drop)]
+#[derive(Clone, Copy)]
 pub struct Ending {
     pub span: Stepped,
     pub ends: bool,

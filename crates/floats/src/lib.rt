@@ -1,4 +1,6 @@
 // Numbers of binary64: their size, nearness, finiteness, and the correctly rounded square root.
+#![tactic(auto)]
+
 ghost use Rattle.std.specs.Prelude.{◌≡◌, ◌+◌, ◌*◌, ◌/◌, ◌%◌, ◌^◌, ◌<◌, ◌≤◌, true, from_bits};
 ghost use Rattle.std.specs.Float.{binary64};
 ghost use Rattle.floats.specs.Size.{abs_of, within, finite};
@@ -217,7 +219,7 @@ fn is_sqrt(x: f64, r: f64) -> bool
 
 // A number, its square as the sum of two, and half of its reciprocal. Nothing is promised of them, so
 // nothing rests on them.
-#[derive(Drop)]
+#[derive(Clone, Copy)]
 struct Near {
     guess: f64,
     square: f64,
@@ -246,7 +248,7 @@ fn candidate(x: f64, n: Near) -> f64 {
 }
 
 // Two roots that were worked out together.
-#[derive(Drop)]
+#[derive(Clone, Copy)]
 pub struct Roots {
     pub first: f64,
     pub second: f64,
@@ -320,7 +322,7 @@ pub fn sqrt_by(a: f64, g: f64) -> f64
 }
 
 // Guesses at √(1 + x * x) for an x from -1 to 1, and for what x is halved to once and twice.
-#[derive(Drop)]
+#[derive(Clone, Copy)]
 pub struct Guesses {
     pub first: f64,
     pub second: f64,
@@ -354,7 +356,7 @@ fn last_digits(x: f64) -> u64 {
 }
 
 // A cubic by its coefficients, the constant first.
-#[derive(Drop)]
+#[derive(Clone, Copy)]
 struct Curve {
     c0: f64,
     c1: f64,

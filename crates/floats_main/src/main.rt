@@ -1,5 +1,7 @@
 // Each public function of `floats`, `vectors` and `bits` at the edges of binary64. What is written
 // is held to the stored output, which was worked out apart from this code.
+#![tactic(auto)]
+
 ghost use Rattle.std.specs.Prelude.{◌<◌};
 
 use vectors::Vector2;

@@ -1,6 +1,8 @@
 // The public functions of `angles` and `intersections` on stored rows that reach each branch. A row
 // is sixteen words of eight bytes, highest byte first: the number of a function, then the bits of
 // its arguments. The stored output comes from 01's arithmetic in Rust (`oracle`, `samples`).
+#![tactic(auto)]
+
 use angles::{FourAngles, ThreeAngles, TwoAngles};
 use intersections::{CircleCircleIntr, LineCircleIntr, LineLineIntr};
 use vectors::Vector2;

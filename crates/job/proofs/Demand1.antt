@@ -16,7 +16,7 @@ use Rattle.sheet.specs.Buffers.{Buffers, shown}
 use Rattle.job.specs.declared.RawOffsetAnswer.{RawOffsetAnswer}
 use Rattle.job.specs.declared.RawOffsetAnswer.TheVariants.{Done, Refused}
 use Rattle.job.specs.Verdict.{Verdict, refused, drawn}
-use Rattle.job.specs.Job.{number, place, result, after_refusal, placed}
+use Rattle.job.specs.Job.{number, place, result_in, after_refusal, placed}
 use Rattle.job.specs.Rows.{Job, outcome, places, Given, Row1, Row2, Row3, Row4, Row5, Row6}
 use Rattle.job.specs.Demand1.{Accepted, Demand1}
 use Rattle.job.proofs.Ways.{as_was, Way, ragged, many, bad, few, tight, copy, repeated, endless, whole, reached, leads_to, ends, way}
@@ -39,7 +39,7 @@ no_place : (a : RawOffsetAnswer) → (number a ≡ 3 → ⊥) → (number a ≡ 
 no_place (Done r) p q = refl
 no_place (Refused r) p q = placed_at r p q
 
-no-counts : (a : RawOffsetAnswer) → 1 ≤ number a → result a ≡ empty_result
+no-counts : (a : RawOffsetAnswer) → 1 ≤ number a → result_in a ≡ empty_result
 no-counts (Done r) h = absurd (omega arith)
 no-counts (Refused r) h = refl
 

@@ -29,7 +29,7 @@ use Rattle.walk.proofs.Connectors.{connectors_bound}
 use Rattle.walk.proofs.Ends.{Closes, closed-ends}
 use Rattle.walk.proofs.Unmet.{never_one}
 use Rattle.job.specs.Verdict.{drawn}
-use Rattle.job.specs.Job.{result, placed}
+use Rattle.job.specs.Job.{result_in, placed}
 use Rattle.job.specs.Rows.{Job, outcome, places}
 use Rattle.job.specs.Demand3.{Walks, close, OpenOutput, ClosedOutput, Against, Demand3}
 use Rattle.job.proofs.Ways.{drawing}
@@ -103,13 +103,13 @@ module _ (j : Job) (a b : PlineVertex) (vs : List PlineVertex) where
   unfolding drawing_of
   the_walk source lone = rw source (sym (no (lone_collapsed j.closed j.settings (a ∷ b ∷ vs)) nothing d (rw source at lone) refl))
 
-  open_output : result (outcome j).answer ≡ result_of d → j.closed ≡ false → OpenOutput j p ks d
+  open_output : result_in (outcome j).answer ≡ result_of d → j.closed ≡ false → OpenOutput j p ks d
   unfolding walk_drawing
   open_output r e =
       let w : d ≡ drawn_open p ks = sym (no j.closed (drawn_closed p ks) (drawn_open p ks) e refl) in
       record { drawn = w; vertices = λ l. ap (λ r. r.vertices) r ∙ ap (λ (x : Drawing). length x.vertices) w ∙ open_vertices p ks l }
 
-  closed-output : result (outcome j).answer ≡ result_of d → j.closed ≡ true → ClosedOutput j p ms ks d
+  closed-output : result_in (outcome j).answer ≡ result_of d → j.closed ≡ true → ClosedOutput j p ms ks d
   unfolding walk_drawing
   closed-output r e = record {
     before = before;
@@ -178,8 +178,8 @@ module _ (j : Job) (a b : PlineVertex) (vs : List PlineVertex) where
       is : outcome j ≡ placed (places j) (drawn d) j.buffers
       is = way.is ∙ ap (λ (x : Drawing). placed (places j) (drawn x) j.buffers) same
 
-      counts : result (outcome j).answer ≡ result_of d
-      counts = ap (λ o. result o.answer) is
+      counts : result_in (outcome j).answer ≡ result_of d
+      counts = ap (λ o. result_in o.answer) is
 
       fine : Sound j.settings.eps ks d
       fine = walk-sound j.settings a b vs j.closed

@@ -26,7 +26,7 @@ use Rattle.refusals.specs.Limits.{number_tests, repeat_tests, first_of}
 use Rattle.refusals.proofs.NumberRow.{number-row, number_nowhere}
 use Rattle.moves.specs.declared.RawOffsetResult.{RawOffsetResult}
 use Rattle.moves.specs.Drawing.{Drawing, nothing, all_finite, empty_result, result_of}
-use Rattle.walk.specs.Walk.{moves_aSegment, drawing_of, copied}
+use Rattle.walk.specs.Walk.{moves_a_segment, drawing_of, copied}
 use Rattle.walk.proofs.Lengths.{two-moves}
 use Rattle.sheet.proofs.Products.{product_most}
 use Rattle.sheet.specs.declared.Built.{Built}
@@ -46,7 +46,7 @@ use Rattle.job.proofs.Ways.{found, not_found, unchanged, all_fit, ragged, many, 
 
 -- ---- the moves of a segment by the mode, and the room, which is small
 
-pub moves_if_lem : (c : Corners) → moves_if (are_pointed c) ≡ moves_aSegment c
+pub moves_if_lem : (c : Corners) → moves_if (are_pointed c) ≡ moves_a_segment c
 moves_if_lem Round = refl
 moves_if_lem (Pointed ratio) = refl
 
@@ -103,7 +103,7 @@ module _ (s : Lent) (closed : Bool) (σ : Settings) (old : Buffers) where
 
       pub few-ends : first_of (number_tests (vertices_in s) σ) ≡ Nowhere → length (vertices_in s) < 2 → ending (Done empty_result) old ≡ job_of s closed σ old
       few-ends e t =
-          let z : moves_aSegment σ.corners * 0 ≡ 0 = omega arith in
+          let z : moves_a_segment σ.corners * 0 ≡ 0 = omega arith in
           ap (ending (Done empty_result)) (sym (rw (segments-none closed (length (vertices_in s)) t, z) (nothing-shown old))) ∙ ends job (few (good e) t)
 
       pub good-ends : first_of (number_tests (vertices_in s) σ) ≡ Nowhere → 2 ≤ length (vertices_in s) → {o : Outcome} → o ≡ from_room (vertices_in s) closed σ old → o ≡ job_of s closed σ old
@@ -153,7 +153,7 @@ module _ (s : List PlineVertex) (closed : Bool) (c : Bool) (xs ys bs : List Floa
   pub copyable : not t ≡ false → Ready v (m * n) s (held c xs ys bs f i o) × (2 * segments_of closed v ≤ m * n) × (m * n ≤ 12288)
   copyable e =
       let d = drawable e in
-      (d.ready, omega (arith, d.enough, product_most 2 (moves_aSegment σ.corners) (segments_of closed v) (two-moves σ.corners)), d.small)
+      (d.ready, omega (arith, d.enough, product_most 2 (moves_a_segment σ.corners) (segments_of closed v) (two-moves σ.corners)), d.small)
 
   -- what is placed
   abbrev judged : Verdict → Outcome

@@ -2,7 +2,7 @@
 use Rattle.std.specs.Prelude.{◌≡◌, ◌↔◌, ℕ, ◌≤◌}
 use Rattle.moves.specs.Drawing.{nothing, empty_result}
 use Rattle.sheet.specs.Buffers.{shown}
-use Rattle.job.specs.Job.{number, place, result}
+use Rattle.job.specs.Job.{number, place, result_in}
 use Rattle.job.specs.Rows.{Job, outcome, places, Given, Row1, Row2, Row3, Row4, Row5, Row6}
 
 -- no row holds
@@ -28,7 +28,7 @@ pub record Demand1 (j : Job) : Type 0 where
   -- no place but of Nos. 3 and 5
   pub placeless : (number (outcome j).answer ≡ 3 → ⊥) → (number (outcome j).answer ≡ 5 → ⊥) → place (outcome j).answer ≡ 0
   -- a refusal has counts 0 and is open
-  pub counts : 1 ≤ number (outcome j).answer → result (outcome j).answer ≡ empty_result
+  pub counts : 1 ≤ number (outcome j).answer → result_in (outcome j).answer ≡ empty_result
   -- Nos. 1 to 5 change no buffer; No. 6 leaves zeros in the places asked for of each, and the others as they were
   pub unchanged : 1 ≤ number (outcome j).answer → number (outcome j).answer ≤ 5 → (outcome j).buffers ≡ j.buffers
   pub zeroed : number (outcome j).answer ≡ 6 → (outcome j).buffers ≡ shown (places j) nothing j.buffers

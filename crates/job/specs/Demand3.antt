@@ -20,7 +20,7 @@ use Rattle.moves.specs.Sound.{Sound, invalids}
 use Rattle.sheet.specs.Buffers.{shown}
 use Rattle.walk.specs.Walk.{walk_start, walk_moves, lone_collapsed}
 use Rattle.job.specs.declared.RawOffsetAnswer.TheVariants.{Done}
-use Rattle.job.specs.Job.{number, result}
+use Rattle.job.specs.Job.{number, result_in}
 use Rattle.job.specs.Rows.{Job, outcome, count, places}
 
 -- ---- of which jobs
@@ -49,7 +49,7 @@ pub record WalkOf (j : Job) (p : Vector2) (ms : List Move) : Type 0 where
 -- An open walk's kept moves ks are drawn as they are: one vertex more than kept moves, or none.
 pub record OpenOutput (j : Job) (p : Vector2) (ks : List Move) (d : Drawing) : Type 0 where
   pub drawn : d ≡ drawn_open p ks
-  pub vertices : 0 < length ks → (result (outcome j).answer).vertices ≡ length ks + 1
+  pub vertices : 0 < length ks → (result_in (outcome j).answer).vertices ≡ length ks + 1
 
 -- A closed walk's last move, the closing one, ends at the first vertex p. The drawing is that of the kept moves ks, and it is what 01's closing rule (`closed_by`) makes of
 -- the moves chosen before the closing one. It has as many vertices as there are kept moves, and exactly one move is never kept. Where the closing move was kept, the
@@ -63,7 +63,7 @@ pub record ClosedOutput (j : Job) (p : Vector2) (ms ks : List Move) (d : Drawing
   pub earlier : List Move
   pub choice : OneChoice move_end (close j) p before earlier
   pub rule : d ≡ closed_by j.settings.eps p earlier closing
-  pub vertices : (result (outcome j).answer).vertices ≡ length ks
+  pub vertices : (result_in (outcome j).answer).vertices ≡ length ks
   pub never_one : length ks ≡ 1 → ⊥
   pub apart : ks ≡ earlier ++ closing ∷ [] → Apart (close j) (map pos_of (around true d.vertices))
 
@@ -90,9 +90,9 @@ pub record Demand3 (j : Job) : Type 0 where
   pub opened : j.closed ≡ false → OpenOutput j start ks drawing
   pub closed : j.closed ≡ true → ClosedOutput j start moves ks drawing
   -- the counts and the closed mark: of no kept move the empty open answer; else the source's mark; as many indexes as invalid kept moves
-  pub none : length ks ≡ 0 → result (outcome j).answer ≡ empty_result
-  pub mark : 0 < length ks → (result (outcome j).answer).closed ≡ j.closed
-  pub indexes : (result (outcome j).answer).indexes ≡ invalids ks
+  pub none : length ks ≡ 0 → result_in (outcome j).answer ≡ empty_result
+  pub mark : 0 < length ks → (result_in (outcome j).answer).closed ≡ j.closed
+  pub indexes : (result_in (outcome j).answer).indexes ≡ invalids ks
   -- it never has one vertex; neighbours are never within tolerance; flags and rising indexes mark exactly the kept moves that are invalid; its origins are those of the kept
   -- moves, in order
   pub sound : Sound j.settings.eps ks drawing

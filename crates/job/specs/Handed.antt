@@ -3,7 +3,7 @@ use Rattle.std.specs.Prelude.{ℕ, List, [], ◌∷◌}
 use Rattle.moves.specs.Drawing.{bit}
 use Rattle.sheet.specs.Buffers.{Buffers}
 use Rattle.job.specs.declared.RawOffsetAnswer.{RawOffsetAnswer}
-use Rattle.job.specs.Job.{Outcome, number, place, result}
+use Rattle.job.specs.Job.{Outcome, number, place, result_in}
 
 -- the number returned, the five numbers of `answer`, and what the buffers hold
 pub record Handed : Type 0 where
@@ -16,7 +16,7 @@ handed n five b = record { returned = n; answer = five; buffers = b }
 
 -- number, place, count of vertices, count of indexes, and 1 where the drawing is closed
 unfoldable pub five_of : RawOffsetAnswer → List ℕ
-five_of a = number a ∷ place a ∷ (result a).vertices ∷ (result a).indexes ∷ bit (result a).closed ∷ []
+five_of a = number a ∷ place a ∷ (result_in a).vertices ∷ (result_in a).indexes ∷ bit (result_in a).closed ∷ []
 
 unfoldable pub handed_of : Outcome → Handed
 handed_of o = handed (number o.answer) (five_of o.answer) o.buffers

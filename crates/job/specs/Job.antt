@@ -24,9 +24,9 @@ place (Done r) = 0
 place (Refused r) = place_of r
 
 -- a refusal has counts 0 and is open
-abbrev pub result : RawOffsetAnswer → RawOffsetResult
-result (Done r) = r
-result (Refused r) = empty_result
+abbrev pub result_in : RawOffsetAnswer → RawOffsetResult
+result_in (Done r) = r
+result_in (Refused r) = empty_result
 
 -- how a job ends: its answer, and what the buffers hold
 pub record Outcome : Type 0 where

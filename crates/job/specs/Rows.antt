@@ -9,7 +9,7 @@ use Rattle.segments.specs.declared.Settings.{Settings}
 use Rattle.source.specs.Source.{Lent, vertices_in, Whole, segments_of}
 use Rattle.refusals.specs.Rows.{NumberRow, RepeatedRow}
 use Rattle.sheet.specs.Buffers.{Buffers, flat}
-use Rattle.walk.specs.Walk.{moves_aSegment, drawing_of}
+use Rattle.walk.specs.Walk.{moves_a_segment, drawing_of}
 use Rattle.job.specs.Job.{Outcome, job_of, number, place}
 
 -- what comes into a job
@@ -31,7 +31,7 @@ fit j = length (vertices_in j.buffers.vertices)
 
 -- 2n, or 3n in the pointed mode
 abbrev pub places : Job → ℕ
-places j = moves_aSegment j.settings.corners * segments_of j.closed (count j)
+places j = moves_a_segment j.settings.corners * segments_of j.closed (count j)
 
 -- refusal n is given, at place k
 pub record Given (j : Job) (n k : ℕ) : Type 0 where

@@ -14,7 +14,7 @@ use Rattle.refusals.specs.declared.Place.{Place}
 use Rattle.refusals.specs.declared.Place.TheVariants.{Nowhere, At}
 use Rattle.refusals.specs.Limits.{number_tests, repeat_tests, first_of}
 use Rattle.moves.specs.Drawing.{Drawing, nothing, all_finite}
-use Rattle.walk.specs.Walk.{moves_aSegment, drawing_of, copied}
+use Rattle.walk.specs.Walk.{moves_a_segment, drawing_of, copied}
 
 pub data Verdict : Type 0 where
   refused : Refusal → Verdict
@@ -28,7 +28,7 @@ refuse r at Nowhere else next = next
 
 -- 01's 2n, and 3n in the pointed mode
 unfoldable pub room_for : Corners → Bool → ℕ → ℕ
-room_for corners closed v = moves_aSegment corners * segments_of closed v
+room_for corners closed v = moves_a_segment corners * segments_of closed v
 
 -- No. 6: a NaN or an infinity among the numbers drawn
 unfoldable pub finite_verdict : Drawing → Verdict

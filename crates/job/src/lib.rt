@@ -1,4 +1,6 @@
 // The raw offset of a drawing: the job, with its refusals.
+#![tactic(auto)]
+
 ghost use Rattle.std.specs.Prelude.{◌≡◌, leb};
 ghost use Rattle.floats.specs.Choice.{◌and◌};
 ghost use Rattle.segments.specs.Modes.{are_pointed, round_by, pointed_by};
@@ -9,7 +11,7 @@ ghost use Rattle.sheet.specs.Buffers.{buffers};
 ghost use Rattle.sheet.specs.InnerSteps.{held, Drawable};
 ghost use Rattle.job.specs.Handed.{five_of};
 ghost use Rattle.job.specs.Verdict.{distinct_verdict};
-ghost use Rattle.job.specs.Job.{number, place, result, ending, placed, job_of};
+ghost use Rattle.job.specs.Job.{number, place, result_in, ending, placed, job_of};
 ghost use Rattle.job.specs.InnerSteps.{moves_if, Counted, from_room};
 
 use moves::RawOffsetResult;
@@ -18,7 +20,7 @@ use segments::Settings;
 use sheet::Built;
 
 // How a job ends: done, with counts and closed mark, or refused.
-#[derive(Drop)]
+#[derive(Clone, Copy)]
 pub enum RawOffsetAnswer {
     Done(RawOffsetResult),
     Refused(Refusal),
@@ -27,7 +29,7 @@ pub enum RawOffsetAnswer {
 impl RawOffsetAnswer {
     // 01's number of it.
     pub fn number(self) -> u32
-        ensures* { λ r. ⌜ r ≡ number self ⌝ }
+        ensures { result ≡ number self }
     {
         match self {
             RawOffsetAnswer::Done(_) => 0,
@@ -37,7 +39,7 @@ impl RawOffsetAnswer {
 
     // The vertex or number that a refusal points at.
     pub fn place(self) -> u32
-        ensures* { λ r. ⌜ r ≡ place self ⌝ }
+        ensures { result ≡ place self }
     {
         match self {
             RawOffsetAnswer::Done(_) => 0,
@@ -47,7 +49,7 @@ impl RawOffsetAnswer {
 
     // The counts and the closed mark: of a refusal those of an empty open drawing.
     pub fn result(self) -> RawOffsetResult
-        ensures* { λ r. ⌜ r ≡ result self ⌝ }
+        ensures { result ≡ result_in self }
     {
         match self {
             RawOffsetAnswer::Done(r) => r,
@@ -59,7 +61,7 @@ impl RawOffsetAnswer {
 // What a caller in C is handed of an answer: its number, and in `five` number, place, count of vertices,
 // count of indexes, and 1 where the drawing is closed.
 pub fn hand(answer: RawOffsetAnswer, five: &mut [u32; 5]) -> u32
-    ensures* { λ r. ⌜ (r ≡ number answer) × (five.new ≡ five_of answer) ⌝ }
+    ensures { (result ≡ number answer) × (five.new ≡ five_of answer) }
 {
     let n = answer.number();
     let k = answer.place();
@@ -72,7 +74,7 @@ const MOST_VERTICES: usize = 4096;
 
 // A span and its connectors: two in the pointed mode.
 pub fn moves_a_segment(pointed: bool) -> usize
-    ensures* { λ r. ⌜ r ≡ moves_if pointed ⌝ }
+    ensures { result ≡ moves_if pointed }
 {
     if pointed {
         return 3;
@@ -92,8 +94,8 @@ pub fn create_raw_offset(
     indexes: &mut [u32],
     origins: &mut [u32],
 ) -> RawOffsetAnswer
-    ensures* { λ r. ⌜ ending r (buffers (rows vertices.new) flags.new indexes.new (origins_in origins.new))
-        ≡ job_of (rows source.now) closed (round_by offset eps) (buffers (rows vertices.old) flags.old indexes.old (origins_in origins.old)) ⌝ }
+    ensures { ending result (buffers (rows vertices.new) flags.new indexes.new (origins_in origins.new))
+        ≡ job_of (rows source.now) closed (round_by offset eps) (buffers (rows vertices.old) flags.old indexes.old (origins_in origins.old)) }
 {
     let mut noys = [0.0; 0];
     let mut nobulges = [0.0; 0];
@@ -126,8 +128,8 @@ pub fn create_raw_offset_pointed(
     indexes: &mut [u32],
     origins: &mut [u32],
 ) -> RawOffsetAnswer
-    ensures* { λ r. ⌜ ending r (buffers (rows vertices.new) flags.new indexes.new (origins_in origins.new))
-        ≡ job_of (rows source.now) closed (pointed_by offset eps ratio) (buffers (rows vertices.old) flags.old indexes.old (origins_in origins.old)) ⌝ }
+    ensures { ending result (buffers (rows vertices.new) flags.new indexes.new (origins_in origins.new))
+        ≡ job_of (rows source.now) closed (pointed_by offset eps ratio) (buffers (rows vertices.old) flags.old indexes.old (origins_in origins.old)) }
 {
     let mut noys = [0.0; 0];
     let mut nobulges = [0.0; 0];
@@ -163,8 +165,8 @@ pub fn create_raw_offset_columns(
     indexes: &mut [u32],
     origins: &mut [u32],
 ) -> RawOffsetAnswer
-    ensures* { λ r. ⌜ ending r (buffers (columns outxs.new outys.new outbulges.new) flags.new indexes.new (origins_in origins.new))
-        ≡ job_of (columns xs.now ys.now bulges.now) closed (round_by offset eps) (buffers (columns outxs.old outys.old outbulges.old) flags.old indexes.old (origins_in origins.old)) ⌝ }
+    ensures { ending result (buffers (columns outxs.new outys.new outbulges.new) flags.new indexes.new (origins_in origins.new))
+        ≡ job_of (columns xs.now ys.now bulges.now) closed (round_by offset eps) (buffers (columns outxs.old outys.old outbulges.old) flags.old indexes.old (origins_in origins.old)) }
 {
     offset_drawing(
         true,
@@ -199,8 +201,8 @@ pub fn create_raw_offset_columns_pointed(
     indexes: &mut [u32],
     origins: &mut [u32],
 ) -> RawOffsetAnswer
-    ensures* { λ r. ⌜ ending r (buffers (columns outxs.new outys.new outbulges.new) flags.new indexes.new (origins_in origins.new))
-        ≡ job_of (columns xs.now ys.now bulges.now) closed (pointed_by offset eps ratio) (buffers (columns outxs.old outys.old outbulges.old) flags.old indexes.old (origins_in origins.old)) ⌝ }
+    ensures { ending result (buffers (columns outxs.new outys.new outbulges.new) flags.new indexes.new (origins_in origins.new))
+        ≡ job_of (columns xs.now ys.now bulges.now) closed (pointed_by offset eps ratio) (buffers (columns outxs.old outys.old outbulges.old) flags.old indexes.old (origins_in origins.old)) }
 {
     offset_drawing(
         true,
@@ -236,8 +238,8 @@ fn offset_drawing(
     origins: &mut [u32],
 ) -> RawOffsetAnswer
     requires { pointed ≡ are_pointed settings.corners }
-    ensures* { λ r. ⌜ ending r (buffers (lent_by columns outxs.new outys.new outbulges.new) flags.new indexes.new (origins_in origins.new))
-        ≡ job_of (lent_by columns xs.now ys.now bulges.now) closed settings (buffers (lent_by columns outxs.old outys.old outbulges.old) flags.old indexes.old (origins_in origins.old)) ⌝ }
+    ensures { ending result (buffers (lent_by columns outxs.new outys.new outbulges.new) flags.new indexes.new (origins_in origins.new))
+        ≡ job_of (lent_by columns xs.now ys.now bulges.now) closed settings (buffers (lent_by columns outxs.old outys.old outbulges.old) flags.old indexes.old (origins_in origins.old)) }
 {
     if !source::is_whole(columns, xs.len(), ys.len(), bulges.len()) {
         return RawOffsetAnswer::Refused(Refusal::Ragged);
@@ -260,7 +262,7 @@ fn offset_drawing(
 }
 
 pub fn has_room(room: usize, vertices: usize, flags: usize, indexes: usize, origins: usize) -> bool
-    ensures* { λ r. ⌜ r ≡ (leb room vertices and (leb room flags and (leb room indexes and leb room origins))) ⌝ }
+    ensures { result ≡ (leb room vertices and (leb room flags and (leb room indexes and leb room origins))) }
 {
     room <= vertices && (room <= flags && (room <= indexes && room <= origins))
 }
@@ -283,9 +285,9 @@ fn offset_good(
     origins: &mut [u32],
 ) -> RawOffsetAnswer
     requires { Counted v (vertices_in (lent_by columns xs.now ys.now bulges.now)) × (pointed ≡ are_pointed settings.corners) }
-    ensures* { λ r. ⌜ ending r (buffers (lent_by columns outxs.new outys.new outbulges.new) flags.new indexes.new (origins_in origins.new))
+    ensures { ending result (buffers (lent_by columns outxs.new outys.new outbulges.new) flags.new indexes.new (origins_in origins.new))
         ≡ from_room (vertices_in (lent_by columns xs.now ys.now bulges.now)) closed settings
-        (buffers (lent_by columns outxs.old outys.old outbulges.old) flags.old indexes.old (origins_in origins.old)) ⌝ }
+        (buffers (lent_by columns outxs.old outys.old outbulges.old) flags.old indexes.old (origins_in origins.old)) }
 {
     let room = moves_a_segment(pointed) * source::segment_count(v, closed);
     let fit = source::vertex_count(columns, outxs.len(), outys.len(), outbulges.len());
@@ -323,9 +325,9 @@ fn offset_nonzero(
     origins: &mut [u32],
 ) -> RawOffsetAnswer
     requires { Drawable v (segments_of closed v) room settings pointed (vertices_in (lent_by columns xs.now ys.now bulges.now)) (held columns outxs.old outys.old outbulges.old flags.old indexes.old origins.old) }
-    ensures* { λ r. ⌜ ending r (buffers (lent_by columns outxs.new outys.new outbulges.new) flags.new indexes.new (origins_in origins.new))
+    ensures { ending result (buffers (lent_by columns outxs.new outys.new outbulges.new) flags.new indexes.new (origins_in origins.new))
         ≡ placed room (distinct_verdict closed settings (vertices_in (lent_by columns xs.now ys.now bulges.now)))
-        (buffers (lent_by columns outxs.old outys.old outbulges.old) flags.old indexes.old (origins_in origins.old)) ⌝ }
+        (buffers (lent_by columns outxs.old outys.old outbulges.old) flags.old indexes.old (origins_in origins.old)) }
 {
     let repeated = refusals::first_repeated(columns, xs, ys, bulges, v, closed);
     if let Place::At(k) = repeated {

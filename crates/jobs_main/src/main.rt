@@ -4,6 +4,8 @@
 // tolerance, of pointed corners the ratio, and how many numbers, flags, indexes and origins are lent;
 // then the source. The jobs at the limit of vertices are made here. The stored output comes from 000
 // over 01's arithmetic in Rust, and for pointed corners from a transcription of 02 (`oracle`, `samples`).
+#![tactic(auto)]
+
 use job::RawOffsetAnswer;
 use moves::RawOffsetResult;
 use segments::{Corners, Settings};
@@ -22,7 +24,7 @@ const ORIGIN_BEFORE: u32 = 0xcafe_f00d;
 const MOST_SHOWN: u32 = 16;
 
 // How many places of each array a job is lent.
-#[derive(Drop)]
+#[derive(Clone, Copy)]
 struct Lent {
     source: usize,
     numbers: usize,

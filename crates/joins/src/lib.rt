@@ -1,4 +1,6 @@
 // The join of two neighbouring offset segments.
+#![tactic(auto)]
+
 ghost use Rattle.std.specs.Prelude.{◌≡◌};
 ghost use Rattle.std.specs.Float.Ieee.{le};
 ghost use Rattle.floats.specs.Choice.{when◌give◌else◌, ◌or◌};
@@ -20,7 +22,7 @@ use meetings::{ArcRule, Meeting, Met, SeenArc};
 use segments::{CarriedArc, CarriedSeg, Corners, RawOffsetLine, Settings};
 use vectors::Vector2;
 
-#[derive(Drop)]
+#[derive(Clone, Copy)]
 pub enum JoinClass {
     Coincident,
     Trimmed,
@@ -31,7 +33,7 @@ pub enum JoinClass {
 }
 
 // How a join turns, in the order of the tests.
-#[derive(Drop)]
+#[derive(Clone, Copy)]
 pub enum JoinTurn {
     Coincident,
     ZeroTangent,
@@ -42,7 +44,7 @@ pub enum JoinTurn {
 }
 
 // Why a boundary is what it is: its class, and whether its connector is invalid, are read off.
-#[derive(Drop)]
+#[derive(Clone, Copy)]
 pub enum JoinCause {
     Coincident,
     Met,
@@ -113,7 +115,7 @@ impl JoinCause {
 
 // Where two spans end and start, and why. Where they met, the rule by which each let the point in, if it
 // is an arc. Its tip, if it has one, and else where the next span starts.
-#[derive(Drop)]
+#[derive(Clone, Copy)]
 pub struct JoinBoundary {
     pub cause: JoinCause,
     pub current_rule: ArcRule,
@@ -127,7 +129,7 @@ pub struct JoinBoundary {
 }
 
 // A boundary that needs no intersection, or an inner join, which does.
-#[derive(Drop)]
+#[derive(Clone, Copy)]
 pub enum Settled {
     Boundary(JoinBoundary),
     Inner,
@@ -429,7 +431,7 @@ fn collapsed_side(current_end: Vector2, next_start: Vector2) -> JoinBoundary
 }
 
 // A boundary, and what is known of the next segment's start angle, if it is an arc.
-#[derive(Drop)]
+#[derive(Clone, Copy)]
 pub struct Joined {
     pub boundary: JoinBoundary,
     pub seen: f64,

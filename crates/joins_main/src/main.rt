@@ -1,6 +1,8 @@
 // The public functions of `segments`, `meetings` and `joins` on stored rows that reach each branch.
 // A row is twenty-four words of eight bytes, highest byte first: the number of a function, then the
 // bits of its arguments. The stored output comes from 01's arithmetic in Rust (`oracle`, `samples`).
+#![tactic(auto)]
+
 ghost use Rattle.std.specs.Prelude.{◌<◌};
 
 use joins::{JoinBoundary, JoinClass, JoinTurn};

@@ -1,4 +1,6 @@
 // Inner functions under C names, for timing them and comparing them layer by layer. Not for callers.
+#![tactic(auto)]
+
 ghost use Rattle.std.specs.Prelude.{◌≡◌, [], ◌∷◌};
 ghost use Rattle.floats.specs.Root.{sqrt_of};
 ghost use Rattle.vectors.specs.declared.Vector2.{Vector2};

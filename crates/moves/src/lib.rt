@@ -1,4 +1,6 @@
 // The moves of a walk, and what the pen draws of them, by value.
+#![tactic(auto)]
+
 ghost use Rattle.std.specs.Prelude.{◌≡◌, ◌+◌, ◌^◌, ◌<◌};
 ghost use Rattle.floats.specs.Binary64.{zero};
 ghost use Rattle.floats.specs.Choice.{when◌give◌else◌, ◌and◌};
@@ -14,7 +16,7 @@ use segments::{CarriedSeg, OutputSegment, PlineVertex, SourceSegment};
 use vectors::Vector2;
 
 // The source segment that a move belongs to: as its span, or as the connector after it.
-#[derive(Drop)]
+#[derive(Clone, Copy)]
 pub enum Origin {
     Span(SourceSegment),
     Connector(SourceSegment),
@@ -63,7 +65,7 @@ impl Origin {
 }
 
 // Why a move's flag is set or clear. A walk makes no copy: that is of an offset of zero.
-#[derive(Drop)]
+#[derive(Clone, Copy)]
 pub enum Reason {
     InOrder,
     TurnedBack,
@@ -155,7 +157,7 @@ impl Reason {
 }
 
 // A move of the walk: where it ends, its bulge, why it is valid or not, and whose it is.
-#[derive(Drop)]
+#[derive(Clone, Copy)]
 pub struct Move {
     pub end: Vector2,
     pub bulge: f64,
@@ -232,14 +234,14 @@ impl Move {
 }
 
 // The last kept point, and the number of the next output segment.
-#[derive(Drop)]
+#[derive(Clone, Copy)]
 pub struct Pen {
     pub last: Vector2,
     pub number: OutputSegment,
 }
 
 // What is drawn of a kept move: the vertex that it leaves, with its bulge.
-#[derive(Drop)]
+#[derive(Clone, Copy)]
 pub struct Stroke {
     pub vertex: PlineVertex,
     pub reason: Reason,
@@ -248,7 +250,7 @@ pub struct Stroke {
 }
 
 // What becomes of a move: its stroke, if it is kept, and the pen then.
-#[derive(Drop)]
+#[derive(Clone, Copy)]
 pub struct Stepped {
     pub kept: bool,
     pub stroke: Stroke,
@@ -326,7 +328,7 @@ pub fn doubt(v: PlineVertex) -> f64
 }
 
 // How many vertices and indexes there are, and whether the answer is closed.
-#[derive(Drop)]
+#[derive(Clone, Copy)]
 pub struct RawOffsetResult {
     pub vertices: u32,
     pub indexes: u32,

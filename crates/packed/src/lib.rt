@@ -1,5 +1,7 @@
 // One packed job, as `rawoffset` reads it, and the text of its answer: the program between reading
 // and writing, on slices.
+#![tactic(auto)]
+
 mod text;
 mod unpacked;
 

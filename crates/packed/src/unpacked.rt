@@ -7,14 +7,14 @@ ghost use Rattle.packed.specs.Packed.{has_ratio, well_formed, numbers_of, decode
 use segments::{Corners, Settings};
 
 // What a program takes: a packed job alone, a pointed one alone, or either.
-#[derive(Drop)]
+#[derive(Clone, Copy)]
 pub enum Form {
     Round,
     Pointed,
     Either,
 }
 
-#[derive(Drop)]
+#[derive(Clone, Copy)]
 pub enum Packed {
     Job {
         closed: bool,

@@ -27,7 +27,7 @@ use Rattle.moves.proofs.Lists.{length-corners, length-flags_of, length-origins_o
 use Rattle.moves.proofs.Shapes.{length_ray}
 use Rattle.moves.proofs.Rows.{in_front}
 use Rattle.walk.specs.Walk.{walk_drawing, drawing_of, copied}
-use Rattle.walk.specs.Walk.{moves_aSegment}
+use Rattle.walk.specs.Walk.{moves_a_segment}
 use Rattle.walk.proofs.Lengths.{moves-few, two-moves, open_drawing, closed-drawing, drawing-fits}
 use Rattle.sheet.proofs.Products.{product_most}
 use Rattle.walk.proofs.Origins.{drawing_never_falls, drawing-below, length_spans, spans_climb, spans_below}
@@ -109,7 +109,7 @@ module _ (j : Job) (d : Drawing) (w : DoneWith j d) (s : ℕ) where
       let origins = ap (λ o. take (segment_count d) o.buffers.origins) w.is ∙ own no_origin (places j) d.origins j.buffers.origins (segment_count d) e.origins in
       let same = ap length flags ∙ e.flags ∙ sym e.origins ∙ sym (ap length origins) in
       let most = segments-most j.closed (count j) in
-      let three = product_most (moves_aSegment j.settings.corners) 3 (sources j) (moves-few j.settings.corners) in
+      let three = product_most (moves_a_segment j.settings.corners) 3 (sources j) (moves-few j.settings.corners) in
       let whole : take 0xffff_ffff d.origins ≡ d.origins = take_all 0xffff_ffff d.origins (omega (arith, w.few-origins, w.few-vertices, three)) in
       record {
         drawing = d;
@@ -146,7 +146,7 @@ module _ (j : Job) where
   done-copy r e =
       let n = sources j in
       let spans = length_spans 0 n in
-      let more = product_most 1 (moves_aSegment j.settings.corners) (sources j) (omega (arith, two-moves j.settings.corners)) in
+      let more = product_most 1 (moves_a_segment j.settings.corners) (sources j) (omega (arith, two-moves j.settings.corners)) in
       record {
         is = e;
         even = even-copied j.closed (points j) r.two;

@@ -1,5 +1,7 @@
 // The part of an output that a source segment became: the first unbroken part of its flags whose
 // origins name that segment, as its span or as the connector after it.
+#![tactic(auto)]
+
 ghost use Rattle.std.specs.Prelude.{◌≡◌, ◌+◌, ◌-◌, ◌≤◌, ◌<◌, eqb, ltb, length, take, drop};
 ghost use Rattle.floats.specs.Choice.{when◌give◌else◌};
 ghost use Rattle.moves.specs.Origins.{origin_of, origins_in};
@@ -12,7 +14,7 @@ use segments::{OutputSegment, SourceSegment};
 const MOST_SEGMENTS: usize = 0xffff_ffff;
 
 // Where a part starts and how many segments it has.
-#[derive(Drop)]
+#[derive(Clone, Copy)]
 pub struct Bounds {
     pub start: OutputSegment,
     pub count: u32,
@@ -43,7 +45,7 @@ impl Bounds {
     }
 }
 
-#[derive(Drop)]
+#[derive(Clone, Copy)]
 pub enum PartAnswer {
     Found(Bounds),
     Refused(Refusal),

@@ -2,6 +2,8 @@
 // highest byte first: the count of rows, then for each n, how many flags and how many origins there are,
 // the source segment, and the origins. Flag i is the number i, so that the part of the flags shows where
 // it stands. The stored output comes from the search in Rust (`oracle`, `samples`).
+#![tactic(auto)]
+
 use segments::SourceSegment;
 use words::{least, print, read_word};
 

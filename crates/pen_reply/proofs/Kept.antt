@@ -11,7 +11,7 @@ use Rattle.segments.specs.declared.Corners.{Corners}
 use Rattle.segments.specs.declared.Corners.TheVariants.{Round, Pointed}
 use Rattle.source.specs.Source.{vertices_of}
 use Rattle.moves.specs.Drawing.{nothing}
-use Rattle.walk.specs.Walk.{moves_aSegment}
+use Rattle.walk.specs.Walk.{moves_a_segment}
 use Rattle.course.specs.Course.{Drawn, draw_one, draw_all, none_drawn}
 use Rattle.course.proofs.Counts.{all_fit, end_fits}
 use Rattle.pieces.specs.declared.OpenJob.{OpenJob}
@@ -62,7 +62,7 @@ end-keeps j =
 abbrev pub Few : Called → Type 0
 Few c = (c.answer.vertices ≤ 3) × (c.answer.segments ≤ 3)
 
-three-most : (c : Corners) → moves_aSegment c ≤ 3
+three-most : (c : Corners) → moves_a_segment c ≤ 3
 three-most Round = omega arith
 three-most (Pointed ratio) = omega arith
 

@@ -8,6 +8,8 @@
 //
 // A segment's line is that of `rawoffset` for the vertex that it leaves, with its origin after it as `raworigins` has it; the
 // last vertex has a line of `rawoffset`'s; and the first line of `rawoffset` comes last. A refusal is its number and its place.
+#![tactic(auto)]
+
 ghost use Rattle.std.specs.Prelude.{◌≡◌, Bool, ◌++◌, ◌+◌, ◌≤◌, ◌<◌, length, drop};
 ghost use Rattle.std.proofs.lemmas.List.Edits.{sets};
 ghost use Rattle.io.specs.Counts.{IsPrefixLen};
@@ -22,7 +24,7 @@ use refusals::Refusal;
 use segments::{PlineVertex, Settings};
 
 // What a step leaves: the job, whether a vertex may follow, and how long its text is.
-#[derive(Drop)]
+#[derive(Clone, Copy)]
 pub struct Pen {
     pub job: OpenJob,
     pub more: bool,

@@ -17,7 +17,7 @@ use Rattle.moves.specs.declared.Stroke.{Stroke}
 use Rattle.moves.specs.Origins.{origins_in}
 use Rattle.moves.specs.Reason.{is_invalid}
 use Rattle.moves.specs.Drawing.{Drawing, nothing, bit}
-use Rattle.walk.specs.Walk.{moves_aSegment}
+use Rattle.walk.specs.Walk.{moves_a_segment}
 use Rattle.walk.proofs.Lengths.{moves-few}
 use Rattle.sheet.specs.declared.Places.{Places}
 use Rattle.sheet.specs.Buffers.{Buffers, buffers}
@@ -51,7 +51,7 @@ module _ (σ : Settings) (l : Laid) where
     pub refusal : ℕ
     pub code : g ≡ of_code strokes course refusal
     pub rules : d ≡ of_rules strokes course refusal
-    pub few : length strokes ≤ n + moves_aSegment σ.corners
+    pub few : length strokes ≤ n + moves_a_segment σ.corners
     -- of k vertices taken before: at most three strokes for each one more, and not too many
     pub grows : length strokes + 3 * k ≤ n + 3 * course.taken
     pub most : k ≤ 4096 → course.taken ≤ 4096
@@ -88,12 +88,12 @@ module _ (σ : Settings) (l : Laid) where
     pub most : k ≤ 4096 → d.course.taken ≤ 4096
 
   pub along : (vs : List PlineVertex) (ss : List Stroke) (w : Course) (r : ℕ)
-      → Along (went_all σ vs (of_code ss w r)) (draw_all σ vs (of_rules ss w r)) (length ss + moves_aSegment σ.corners * length vs) (length ss) w.taken
+      → Along (went_all σ vs (of_code ss w r)) (draw_all σ vs (of_rules ss w r)) (length ss + moves_a_segment σ.corners * length vs) (length ss) w.taken
   unfolding went_all draw_all
   along [] ss w r = record { strokes = ss; code = refl; rules = refl; few = omega arith; grows = omega arith; most = λ k. k }
   along (c ∷ vs) ss w r =
       let x = next ss w r c in
-      let m = moves_aSegment σ.corners in
+      let m = moves_a_segment σ.corners in
       let n = length x.strokes in
       let a = along vs x.strokes x.course x.refusal in
       let b = subst (λ (g : Went). Along (went_all σ vs g) (draw_all σ vs (of_rules x.strokes x.course x.refusal)) (n + m * length vs) n x.course.taken) (sym x.code) a in
@@ -114,7 +114,7 @@ module _ (σ : Settings) (j : OpenJob) (w : Course) (vs : List PlineVertex) (t :
   d = draw_all σ vs (none_drawn w)
 
   abbrev room : ℕ
-  room = moves_aSegment σ.corners * length vs
+  room = moves_a_segment σ.corners * length vs
 
   module _ {σ' : Settings} {t₀ : Taken} (rooms : Rooms room (laid no_places (rows_held ns f i o))) (asked : σ' ≡ σ) (first : t₀ ≡ none_taken w)
       (e : went t (rows_held ns' f' i' o') ≡ went_all σ' vs (went t₀ (rows_held ns f i o))) where

@@ -29,7 +29,7 @@ use Rattle.walk.specs.Walk.{walk_drawing, lone_collapsed, drawing_of, copied}
 use Rattle.walk.proofs.Lengths.{open_drawing}
 use Rattle.walk.proofs.Origins.{length_spans}
 use Rattle.job.specs.Verdict.{drawn}
-use Rattle.job.specs.Job.{Outcome, number, result, placed}
+use Rattle.job.specs.Job.{Outcome, number, result_in, placed}
 use Rattle.job.specs.Rows.{Job, outcome, count, fit, places, Numbers}
 use Rattle.job.proofs.Ways.{points, Way, ragged, many, bad, few, tight, copy, repeated, endless, whole, leads_to, way, ends}
 use Rattle.course.specs.Joined.{drawn_whole}
@@ -107,7 +107,7 @@ drawn_plain σ (a ∷ b ∷ vs) = by (lone_collapsed false σ (a ∷ b ∷ vs))
 output-is : (j : Job) (d : Drawing) → Plain d → places j ≤ fit j → placed (places j) (drawn d) j.buffers ≡ outcome j → output j ≡ d
 unfolding output
 output-is j d p h e =
-    ap (λ (o : Outcome). let r = result o.answer in first r.vertices (r.vertices - 1) r.indexes o.buffers) (sym e)
+    ap (λ (o : Outcome). let r = result_in o.answer in first r.vertices (r.vertices - 1) r.indexes o.buffers) (sym e)
     ∙ shown_read d p.unclosed p.origins (places j) j.buffers (length d.vertices - 1) h p.flags
 
 -- ---- an accepted job

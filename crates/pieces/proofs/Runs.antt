@@ -21,7 +21,7 @@ use Rattle.source.proofs.Source.{whole_passes}
 use Rattle.refusals.proofs.First.{by_test}
 use Rattle.moves.specs.Drawing.{nothing}
 use Rattle.moves.specs.InnerSteps as M
-use Rattle.walk.specs.Walk.{moves_aSegment}
+use Rattle.walk.specs.Walk.{moves_a_segment}
 use Rattle.sheet.specs.Buffers.{Buffers}
 use Rattle.job.specs.Job.{has_room}
 use Rattle.course.specs.declared.Course.{Course}
@@ -202,7 +202,7 @@ module _ (σ : Settings) where
   ran (s ∷ ss) j r (more f fs) =
       let us = vertices_of s.source in
       let d = draw_all σ us (none_drawn j.course) in
-      let room = moves_aSegment σ.corners * length us in
+      let room = moves_a_segment σ.corners * length us in
       let is = draw-goes σ j r s f in
       let o = C.all_open σ us (none_drawn j.course) refl in
       let fit = C.all_fit σ us j.course in

@@ -21,7 +21,7 @@ use Rattle.refusals.specs.Table.{number_of}
 use Rattle.moves.specs.Origins.{origins_in}
 use Rattle.moves.specs.Drawing.{nothing}
 use Rattle.moves.proofs.Origins.{origins-length}
-use Rattle.walk.specs.Walk.{moves_aSegment}
+use Rattle.walk.specs.Walk.{moves_a_segment}
 use Rattle.walk.proofs.Lengths.{moves-few}
 use Rattle.sheet.specs.Buffers.{Buffers, buffers}
 use Rattle.sheet.specs.InnerSteps.{no_places, laid, Rooms}
@@ -71,7 +71,7 @@ open_facts j h =
     let σ = settings_of j in
     let v = j.course.taken in
     let n = leb-true j.course.number (most_number σ v) e.1 in
-    let m = product_most (moves_aSegment σ.corners) 3 (v - 2) (moves-few σ.corners) in
+    let m = product_most (moves_a_segment σ.corners) 3 (v - 2) (moves-few σ.corners) in
     record { taken = leb-true v 4096 e.0; number = omega arith }
 
 -- ---- vertices
@@ -87,12 +87,12 @@ module _ (j : OpenJob) (source : List Float) (old : Buffers) where
     draw-ragged k p q = no _ _ _ h (yes _ _ _ k (rw (p, q)))
 
     module _ (k : not (is_whole (rows source)) ≡ false) where
-      pub draw_roomless : {a : DrawAnswer} {j' : OpenJob} → not (has_room old (moves_aSegment (settings_of j).corners * length (vertices_of source))) ≡ true
+      pub draw_roomless : {a : DrawAnswer} {j' : OpenJob} → not (has_room old (moves_a_segment (settings_of j).corners * length (vertices_of source))) ≡ true
           → a ≡ answering (number_of NoRoom) 0 nothing → j' ≡ j → called a j' old ≡ draw_call j source old
       unfolding draw_call
       draw_roomless r p q = no _ _ _ h (no _ _ _ k (yes _ _ _ r (rw (p, q))))
 
-      pub draw-goes : {c : Called} → not (has_room old (moves_aSegment (settings_of j).corners * length (vertices_of source))) ≡ false
+      pub draw-goes : {c : Called} → not (has_room old (moves_a_segment (settings_of j).corners * length (vertices_of source))) ≡ false
           → c ≡ drawn_call j (draw_all (settings_of j) (vertices_of source) (none_drawn j.course)) old → c ≡ draw_call j source old
       unfolding draw_call
       draw-goes r e = no _ _ _ h (no _ _ _ k (no _ _ _ r e))
@@ -100,16 +100,16 @@ module _ (j : OpenJob) (source : List Float) (old : Buffers) where
 -- the room of the code is that of the rules: t is what its test answers
 module _ (j : OpenJob) (source ns : List Float) (f i o : List ℕ) {p t : Bool} {m : ℕ} (a : p ≡ are_pointed (settings_of j).corners) (b : m ≡ moves_if p)
     (r : t ≡ (leb (m * (length source / 3)) (length ns / 3) and (leb (m * (length source / 3)) (length f) and (leb (m * (length source / 3)) (length i) and leb (m * (length source / 3)) (length o))))) where
-  moves-told : m ≡ moves_aSegment (settings_of j).corners
+  moves-told : m ≡ moves_a_segment (settings_of j).corners
   moves-told = b ∙ ap moves_if a ∙ moves_if_lem (settings_of j).corners
 
-  pub same-room : not t ≡ not (has_room (buffers (rows ns) f i (origins_in o)) (moves_aSegment (settings_of j).corners * length (vertices_of source)))
+  pub same-room : not t ≡ not (has_room (buffers (rows ns) f i (origins_in o)) (moves_a_segment (settings_of j).corners * length (vertices_of source)))
   same-room =
-      let e : t ≡ has_room (buffers (rows ns) f i (origins_in o)) (moves_aSegment (settings_of j).corners * length (vertices_of source)) =
+      let e : t ≡ has_room (buffers (rows ns) f i (origins_in o)) (moves_a_segment (settings_of j).corners * length (vertices_of source)) =
       r ∙ room_tested (m * (length source / 3)) ns f i o ∙ rw (moves-told, count-is false source [] []) in
       ap not e
 
-  pub room_rules : not t ≡ false → Rooms (moves_aSegment (settings_of j).corners * (length source / 3)) (laid no_places (rows_held ns f i o))
+  pub room_rules : not t ≡ false → Rooms (moves_a_segment (settings_of j).corners * (length source / 3)) (laid no_places (rows_held ns f i o))
   room_rules h = rw (← moves-told) (room_had (m * (length source / 3)) ns f i o (sym r ∙ not-false t h))
 
 pub count-rows : (source : List Float) → length source / 3 ≡ length (vertices_of source)

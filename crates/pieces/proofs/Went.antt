@@ -21,7 +21,7 @@ use Rattle.moves.specs.declared.Stroke.{Stroke}
 use Rattle.moves.specs.Drawing.{Drawing, nothing, all_finite, move_end}
 use Rattle.moves.proofs.Kept.{length-kept}
 use Rattle.vectors.specs.Plane.{near}
-use Rattle.walk.specs.Walk.{moves_aSegment}
+use Rattle.walk.specs.Walk.{moves_a_segment}
 use Rattle.walk.proofs.Lengths.{moves-few, two-moves, joined-few}
 use Rattle.sheet.specs.InnerSteps.{Contents, Laid, stores, Rooms}
 use Rattle.sheet.proofs.Storing.{strokes-few, stores-room, room_fewer}
@@ -97,26 +97,26 @@ module _ (σ : Settings) (w : Course) (c : PlineVertex) where
 
   -- ---- what becomes of it: at most so many strokes, one vertex more, and at most so many numbers
 
-  turn-few : length (turn_moves σ w c) ≤ moves_aSegment σ.corners
+  turn-few : length (turn_moves σ w c) ≤ moves_a_segment σ.corners
   unfolding turn_moves
   turn-few = omega (arith, joined-few σ (w.taken - 2) w.before w.last c)
 
-  pub step-few : length (step_strokes σ w c) ≤ moves_aSegment σ.corners
+  pub step-few : length (step_strokes σ w c) ≤ moves_a_segment σ.corners
   unfolding step_strokes copy_strokes turn_strokes
   step-few = by (eq σ.offset B.zero) (eqb w.taken 0) (ltb w.taken 2)
     where
-      by : (z n l : Bool) → length (when z give (when n give [] else copy_stroke w ∷ []) else when l give [] else turn_strokes σ w c) ≤ moves_aSegment σ.corners
+      by : (z n l : Bool) → length (when z give (when n give [] else copy_stroke w ∷ []) else when l give [] else turn_strokes σ w c) ≤ moves_a_segment σ.corners
       by true true l = unfold when◌give◌else◌ in omega arith
       by true false l = unfold when◌give◌else◌ in omega (arith, two-moves σ.corners)
       by false n true = unfold when◌give◌else◌ in omega arith
       by false n false = unfold when◌give◌else◌ in omega (arith, turn-few, strokes-few 0 (pen_in w) (turn_moves σ w c) σ.eps)
 
-  pub strokes-fit : {ss : List Stroke} → ss ≡ step_strokes σ w c → length ss ≤ moves_aSegment σ.corners * 1
+  pub strokes-fit : {ss : List Stroke} → ss ≡ step_strokes σ w c → length ss ≤ moves_a_segment σ.corners * 1
   strokes-fit e = rw e (omega (arith, step-few))
 
   pub record Counts (w' : Course) : Type 0 where
     pub taken : w'.taken ≡ w.taken + 1
-    pub number : w'.number ≤ w.number + moves_aSegment σ.corners
+    pub number : w'.number ≤ w.number + moves_a_segment σ.corners
 
   pub step_counts : Counts (step_on σ w c).course
   unfolding step_on
@@ -151,7 +151,7 @@ module _ (σ : Settings) (c : PlineVertex) (g : Went) where
   -- one vertex fewer to come
   module _ {n : ℕ} {pointed : Bool} (r : Ready (suc n) g σ pointed) where
     abbrev m : ℕ
-    m = moves_aSegment σ.corners
+    m = moves_a_segment σ.corners
 
     fewer : Rooms (m * n) g.laid
     fewer = room_fewer (omega (arith, suc_times m n)) r.rooms
@@ -210,4 +210,4 @@ module _ {σ : Settings} {pointed : Bool} {vs : List PlineVertex} {n : ℕ} wher
 
 -- what one vertex needs of n of them
 pub ready-one : {n : ℕ} {g : Went} {σ : Settings} {pointed : Bool} → Ready n g σ pointed → 1 ≤ n → Ready 1 g σ pointed
-ready-one {n} {g} {σ} r h = record { taken = r.taken; number = r.number; told = r.told; rooms = room_fewer (omega (arith, product_one (moves_aSegment σ.corners) n h)) r.rooms }
+ready-one {n} {g} {σ} r h = record { taken = r.taken; number = r.number; told = r.told; rooms = room_fewer (omega (arith, product_one (moves_a_segment σ.corners) n h)) r.rooms }

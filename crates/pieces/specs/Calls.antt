@@ -13,7 +13,7 @@ use Rattle.refusals.specs.declared.Refusal.TheVariants.{Ragged, TooMany, BadNumb
 use Rattle.refusals.specs.Table.{number_of}
 use Rattle.refusals.specs.Limits.{good_offset, good_eps, good_corners}
 use Rattle.moves.specs.Drawing.{Drawing, nothing}
-use Rattle.walk.specs.Walk.{moves_aSegment}
+use Rattle.walk.specs.Walk.{moves_a_segment}
 use Rattle.sheet.specs.Buffers.{Buffers, padded, no_origin, laid_in}
 use Rattle.job.specs.Job.{has_room}
 use Rattle.course.specs.declared.Course.{Course}
@@ -39,7 +39,7 @@ settings_of j = when eqb j.pointed 0 give round_by j.offset j.eps else pointed_b
 
 -- so many output segments have v vertices made certain at most
 abbrev pub most_number : Settings → ℕ → ℕ
-most_number σ v = moves_aSegment σ.corners * (v - 2)
+most_number σ v = moves_a_segment σ.corners * (v - 2)
 
 -- an open job: its mode is one of two, nothing has refused it, and it has no more vertices and output segments than a job can have
 unfoldable pub is_open : OpenJob → Bool
@@ -128,7 +128,7 @@ draw_call j source old =
     let vs = vertices_of source in
     when not (is_open j) give called (shut_answer j) j old else
     when not (is_whole (rows source)) give unchanged Ragged j old else
-    when not (has_room old (moves_aSegment σ.corners * length vs)) give unchanged NoRoom j old else
+    when not (has_room old (moves_a_segment σ.corners * length vs)) give unchanged NoRoom j old else
     drawn_call j (draw_all σ vs (none_drawn j.course)) old
 
 -- the end, with room for two

@@ -6,9 +6,9 @@ use Rattle.segments.specs.declared.Settings.{Settings}
 use Rattle.segments.specs.declared.PlineVertex.{PlineVertex}
 use Rattle.source.specs.Source.{rows, vertices_of, vertices_in, Whole}
 use Rattle.moves.specs.Drawing.{Drawing, nothing}
-use Rattle.walk.specs.Walk.{moves_aSegment}
+use Rattle.walk.specs.Walk.{moves_a_segment}
 use Rattle.sheet.specs.Buffers.{Buffers}
-use Rattle.job.specs.Job.{number, result, has_room}
+use Rattle.job.specs.Job.{number, result_in, has_room}
 use Rattle.job.specs.Rows.{Job, outcome}
 use Rattle.course.specs.Course.{◌then◌}
 use Rattle.course.specs.Joined.{drawn_whole, Beginning}
@@ -25,7 +25,7 @@ pub record Sent : Type 0 where
 -- no number is left over, and there is room
 pub record Fits (σ : Settings) (s : Sent) : Type 0 where
   pub whole : Whole (rows s.source)
-  pub room : has_room s.buffers (moves_aSegment σ.corners * length (vertices_of s.source)) ≡ true
+  pub room : has_room s.buffers (moves_a_segment σ.corners * length (vertices_of s.source)) ≡ true
 
 -- so does each
 pub data AllFit (σ : Settings) : List Sent → Type 0 where
@@ -58,7 +58,7 @@ handed c = first c.answer.vertices c.answer.segments c.answer.indexes c.buffers
 
 -- of a whole open job: it has one segment fewer than vertices
 unfoldable pub output : Job → Drawing
-output j = let r = result (outcome j).answer in first r.vertices (r.vertices - 1) r.indexes (outcome j).buffers
+output j = let r = result_in (outcome j).answer in first r.vertices (r.vertices - 1) r.indexes (outcome j).buffers
 
 -- joined
 unfoldable pub join : List Called → Drawing

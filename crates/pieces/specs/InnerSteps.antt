@@ -4,7 +4,7 @@ use Rattle.floats.specs.Choice.{when◌give◌else◌}
 use Rattle.segments.specs.declared.Settings.{Settings}
 use Rattle.segments.specs.declared.PlineVertex.{PlineVertex}
 use Rattle.segments.specs.Modes.{are_pointed}
-use Rattle.walk.specs.Walk.{moves_aSegment}
+use Rattle.walk.specs.Walk.{moves_a_segment}
 use Rattle.moves.specs.Drawing.{bit}
 use Rattle.sheet.specs.declared.Places.{Places}
 use Rattle.sheet.specs.InnerSteps.{Contents, held, no_places, Laid, laid, stores, Rooms}
@@ -46,7 +46,7 @@ pub record Ready (n : ℕ) (g : Went) (σ : Settings) (pointed : Bool) : Type 0 
   pub taken : g.course.taken ≤ 4096
   pub number : g.course.number ≤ 3 * g.course.taken
   pub told : pointed ≡ are_pointed σ.corners
-  pub rooms : Rooms (moves_aSegment σ.corners * n) g.laid
+  pub rooms : Rooms (moves_a_segment σ.corners * n) g.laid
 
 -- before the first vertex of a call
 abbrev pub none_taken : Course → Taken

@@ -1,5 +1,7 @@
 // An open job whose vertices are drawn: its record, and the three calls that take it by value and hand out
 // what is certain into lent buffers, in rows. Any record may come in; what it can not be is refused.
+#![tactic(auto)]
+
 ghost use Rattle.std.specs.Prelude.{◌≡◌, false, not, [], ◌-◌, ◌<◌, ◌≤◌, eqb, leb, length};
 ghost use Rattle.std.specs.Float.Ieee.{eq};
 ghost use Rattle.floats.specs.Binary64.{zero};
@@ -27,7 +29,7 @@ use sheet::Places;
 // The record of an open job, which holds nothing that grows: what was asked for, how far the job is, and
 // what is held of its vertices. It is all numbers, for callers in C.
 #[repr(C)]
-#[derive(Drop)]
+#[derive(Clone, Copy)]
 pub struct OpenJob {
     pub offset: f64,
     pub eps: f64,
@@ -40,7 +42,7 @@ pub struct OpenJob {
 }
 
 // What a call answers: number and place, and how many vertices, indexes and segments it hands out.
-#[derive(Drop)]
+#[derive(Clone, Copy)]
 pub struct DrawAnswer {
     pub number: u32,
     pub place: u32,
@@ -50,7 +52,7 @@ pub struct DrawAnswer {
 }
 
 // The answer, and the record after the call.
-#[derive(Drop)]
+#[derive(Clone, Copy)]
 pub struct Called {
     pub answer: DrawAnswer,
     pub job: OpenJob,
@@ -232,7 +234,7 @@ pub fn start(settings: Settings) -> Called
 
 // How far vertices are taken: what is held of them, the number of the refusal that has come, or 0, and
 // where the next stroke and the next index go.
-#[derive(Drop)]
+#[derive(Clone, Copy)]
 pub struct Taken {
     pub course: Course,
     pub refusal: u32,

@@ -1,5 +1,6 @@
 // One packed job from standard input, and its answer to standard output. What is written for what is
 // read is `reply`'s: here are the two calls, and nothing is decided.
+#![tactic(auto)]
 
 // One byte more than the largest job has: of a longer input that is enough to refuse it (`cut` in
 // crates/reply/proofs/Never.antt).

@@ -1,5 +1,6 @@
 // One packed job, round or pointed, from standard input, and the origins of its output segments to standard
 // output. What is written for what is read is `reply_origins`'s: here are the two calls, and nothing is decided.
+#![tactic(auto)]
 
 // One byte more than the largest job has, 8 and 12306: of a longer input that is enough to refuse it (`cut` in
 // crates/reply/proofs/Never.antt).

@@ -1,6 +1,8 @@
 // An open job whose vertices are drawn, from standard input: the packed head, and then a vertex at a time. What each
 // makes certain goes to standard output at once. What is written for what is read is `pen_reply`'s: here is the
 // order of its calls, and nothing else is decided.
+#![tactic(auto)]
+
 use pen_reply::Pen;
 use pieces::OpenJob;
 

@@ -1,5 +1,6 @@
 // One pointed packed job from standard input, and its answer to standard output. What is written for what is
 // read is `reply_pointed`'s: here are the two calls, and nothing is decided.
+#![tactic(auto)]
 
 // One byte more than the largest job has, 8 and 12306: of a longer input that is enough to refuse it (`cut`
 // in crates/reply/proofs/Never.antt).

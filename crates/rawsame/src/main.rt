@@ -1,5 +1,6 @@
 // The texts of two outputs from standard input, with the length of the first before them, and what differs between them
 // to standard output. What is written for what is read is `same_reply`'s: here are the two calls, nothing is decided.
+#![tactic(auto)]
 
 // One byte more than the longest two texts have with the length before them: of a longer input that is enough to refuse
 // it (`cut` in crates/same_reply/proofs/Never.antt).

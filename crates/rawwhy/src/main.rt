@@ -1,5 +1,6 @@
 // One question from standard input, and its answer to standard output. What is written for what is read
 // is `why_reply`'s: here are the two calls, and nothing is decided.
+#![tactic(auto)]
 
 // One byte more than the largest question has, 4, 8 and 12306: of a longer input that is enough to refuse
 // it (`cut` in crates/why_reply/proofs/Cut.antt).

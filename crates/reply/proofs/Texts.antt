@@ -20,8 +20,8 @@ use Rattle.moves.specs.declared.RawOffsetResult.{RawOffsetResult}
 use Rattle.sheet.specs.Buffers.{Buffers}
 use Rattle.sheet.proofs.Products.{product_most}
 use Rattle.job.specs.declared.RawOffsetAnswer.{RawOffsetAnswer}
-use Rattle.job.specs.Job.{Outcome, number, place, result, ending, job_of}
-use Rattle.walk.specs.Walk.{moves_aSegment}
+use Rattle.job.specs.Job.{Outcome, number, place, result_in, ending, job_of}
+use Rattle.walk.specs.Walk.{moves_a_segment}
 use Rattle.job.specs.Rows.{Job, count, places}
 use Rattle.job.proofs.Fits.{vertices-fit}
 use Rattle.packed.specs.Text.{refusal_of, text_of, origins_text, printed}
@@ -62,16 +62,16 @@ blank_job s closed σ = record { source = rows s; closed = closed; settings = σ
 pub places-most : (j : Job) → places j ≤ 3 * count j
 places-most j =
     let n = segments_of j.closed (count j) in
-    let p = product_most (moves_aSegment j.settings.corners) 3 n (three-most j.settings.corners) in
+    let p = product_most (moves_a_segment j.settings.corners) 3 n (three-most j.settings.corners) in
     omega (arith, p, segments-most j.closed (count j))
   where
-    three-most : (c : Corners) → moves_aSegment c ≤ 3
+    three-most : (c : Corners) → moves_a_segment c ≤ 3
     three-most Round = omega arith
     three-most (Pointed ratio) = omega arith
 
 module _ (s : List Float) (closed : Bool) (σ : Settings) where
   module _ {a : RawOffsetAnswer} {b : Buffers} (ends : ending a b ≡ job_of (rows s) closed σ blank) where
-    pub few-printed : length s ≤ 1536 → {r : RawOffsetResult} → r ≡ result a → r.vertices ≤ 1536
+    pub few-printed : length s ≤ 1536 → {r : RawOffsetResult} → r ≡ result_in a → r.vertices ≤ 1536
     few-printed h {r} e =
         let f = vertices-fit (blank_job s closed σ) in
         let m = places-most (blank_job s closed σ) in
@@ -79,7 +79,7 @@ module _ (s : List Float) (closed : Bool) (σ : Settings) where
         rw (e, ap (λ (o : Outcome). o.answer) ends) (omega arith)
 
     module _ (asked : Asked) {n : ℕ} (numbered : n ≡ number a) where
-      pub done-text : n ≡ 0 → {r : RawOffsetResult} → r ≡ result a → answer_text asked (job_of (rows s) closed σ blank) ≡ done_text asked r (numbers_in b.vertices) b.flags b.origins
+      pub done-text : n ≡ 0 → {r : RawOffsetResult} → r ≡ result_in a → answer_text asked (job_of (rows s) closed σ blank) ≡ done_text asked r (numbers_in b.vertices) b.flags b.origins
       unfolding answer_text
       done-text z {r} e = sym (yes _ _ _ (eq-eqb _ _ (ap (λ (o : Outcome). number o.answer) (sym ends) ∙ sym numbered ∙ z)) (rw (← ends, e)))
 

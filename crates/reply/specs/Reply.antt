@@ -11,7 +11,7 @@ use Rattle.moves.specs.declared.Origin.{Origin}
 use Rattle.moves.specs.declared.RawOffsetResult.{RawOffsetResult}
 use Rattle.moves.specs.Origins.{origins_in}
 use Rattle.sheet.specs.Buffers.{Buffers, buffers}
-use Rattle.job.specs.Job.{Outcome, number, place, result, job_of}
+use Rattle.job.specs.Job.{Outcome, number, place, result_in, job_of}
 use Rattle.job.specs.Layouts.{interleaved}
 use Rattle.packed.specs.declared.unpacked.Form.{Form}
 use Rattle.packed.specs.declared.unpacked.Form.TheVariants.{Round, Pointed, Either}
@@ -37,7 +37,7 @@ done_text Origins r vertices flags origins = origins_text (segments_of r.closed 
 -- refused: the number and the place
 unfoldable pub answer_text : Asked → Outcome → List ℕ
 answer_text asked o =
-    when eqb (number o.answer) 0 give done_text asked (result o.answer) (numbers_in o.buffers.vertices) o.buffers.flags o.buffers.origins else
+    when eqb (number o.answer) 0 give done_text asked (result_in o.answer) (numbers_in o.buffers.vertices) o.buffers.flags o.buffers.origins else
     refusal_of (number o.answer) (place o.answer)
 
 -- what becomes of a packed job, with corners that are told beside it

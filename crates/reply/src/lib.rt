@@ -1,6 +1,8 @@
 // The whole way of `rawoffset`: from the bytes of a packed job to the bytes of its answer; that of `rawpointed`,
 // from a pointed one; and that of `raworigins`, from either to the origins of its output segments. The programs
 // themselves only read the ones and write the others.
+#![tactic(auto)]
+
 ghost use Rattle.std.specs.Prelude.{◌≡◌, ◌++◌, ◌≤◌, length, drop};
 ghost use Rattle.io.specs.Counts.{IsPrefixLen};
 ghost use Rattle.moves.specs.Origins.{origins_in};
@@ -21,7 +23,7 @@ const VERTICES: usize = 4608;
 const SEGMENTS: usize = 1536;
 
 // What is asked of a job that is done: the drawing with its flags, or the origins of its segments.
-#[derive(Drop)]
+#[derive(Clone, Copy)]
 enum Asked {
     Drawing,
     Origins,

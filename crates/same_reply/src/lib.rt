@@ -3,6 +3,8 @@
 //
 // What is read is not looked at closely: digits are taken as they come, and then the output is printed again, as
 // `rawoffset` does it. Where that is what was read, it is an output's text; else it is malformed.
+#![tactic(auto)]
+
 mod read;
 mod text;
 
@@ -31,7 +33,7 @@ const NUMBERS: usize = 36864;
 const TEXT: usize = 651313;
 
 // What a text is read as, and whether it is what is printed of that: else it is no output's.
-#[derive(Drop)]
+#[derive(Clone, Copy)]
 struct Found {
     printed: bool,
     count: usize,

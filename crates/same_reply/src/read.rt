@@ -5,7 +5,7 @@ ghost use Rattle.std.proofs.lemmas.List.Edits.{sets};
 ghost use Rattle.same_reply.specs.Read.{byte_at, digit_of, hexadecimal, double_at, count_of, closed_of, numbers_at, flag_of, flags_at, lines_from};
 
 // What an output's first line says, and where the lines of its vertices start.
-#[derive(Drop)]
+#[derive(Clone, Copy)]
 pub struct Head {
     pub count: usize,
     pub closed: bool,

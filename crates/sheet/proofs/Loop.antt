@@ -27,7 +27,7 @@ use Rattle.moves.specs.InnerSteps.{pen_after, step_of, tip_first}
 use Rattle.walk.specs.declared.Walk.{Walk}
 use Rattle.walk.specs.declared.Turned.{Turned}
 use Rattle.walk.specs.InnerSteps.{Standing, stands, Stood, stood, Fit, standing_at, entering, after_turn, Turn, turn_to, turn_shown, after_span, made_by, strokes_by, pen_by, advance}
-use Rattle.walk.specs.Walk.{moves_aSegment}
+use Rattle.walk.specs.Walk.{moves_a_segment}
 use Rattle.walk.proofs.Turning.{led-undrawn}
 use Rattle.walk.proofs.Lengths.{moves-few, two-moves, connectors-few}
 use Rattle.sheet.specs.declared.Places.{Places}
@@ -61,7 +61,7 @@ pub record Moved (m : ℕ) (c : PlineVertex) (w w' : Stood) (strokes : ℕ) : Ty
   pub vertex : w'.walker.vertex ≡ c
   pub few : strokes ≤ m * (1 - w.leading)
 
-pub advance-moved : (closed : Bool) (σ : Settings) (c : PlineVertex) (w : Stood) → let a = advance closed σ c w in Moved (moves_aSegment σ.corners) c w a.stood (length a.strokes)
+pub advance-moved : (closed : Bool) (σ : Settings) (c : PlineVertex) (w : Stood) → let a = advance closed σ c w in Moved (moves_a_segment σ.corners) c w a.stood (length a.strokes)
 unfolding advance turn_to
 advance-moved closed σ c w =
     let t = turn_to w.walker c σ in
@@ -78,7 +78,7 @@ pub record Gone (m n : ℕ) (r r' : Trail) : Type 0 where
   pub strokes : r'.laid.places.strokes ≤ r.laid.places.strokes + m * (n - r.stood.leading)
   pub marks : r'.laid.places.marks ≤ r.laid.places.marks + m * (n - r.stood.leading)
 
-pub advances_gone : (closed : Bool) (σ : Settings) (vs : List PlineVertex) (r : Trail) → Gone (moves_aSegment σ.corners) (length vs) r (advances closed σ vs r)
+pub advances_gone : (closed : Bool) (σ : Settings) (vs : List PlineVertex) (r : Trail) → Gone (moves_a_segment σ.corners) (length vs) r (advances closed σ vs r)
 unfolding advances advanced
 advances_gone closed σ [] r = record { source = omega arith; number = omega arith; strokes = omega arith; marks = omega arith }
 advances_gone closed σ (c ∷ vs) r =
@@ -87,7 +87,7 @@ advances_gone closed σ (c ∷ vs) r =
     let g = advances_gone closed σ vs (advanced closed σ c r) in
     let strokes = rw m.leading at g.strokes in
     let marks = rw m.leading at g.marks in
-    let p = product_turns (moves_aSegment σ.corners) (length vs) r.stood.leading in
+    let p = product_turns (moves_a_segment σ.corners) (length vs) r.stood.leading in
     record {
       source = omega (arith, g.source, m.source);
       number = omega (arith, g.number, m.number);
@@ -140,7 +140,7 @@ module _ {closed : Bool} {σ : Settings} {c : PlineVertex} {w : Walk} {p : Place
   round-advanced : trail_later w' p' r' b' ≡ advanced closed σ c (trail_later w p r b)
   round-advanced = by_code ∙ rw (x.turned, x.wrote, x.same-pen, x.same-leading) (by-advanced closed σ c (trail_later w p r b))
 
-  round-moved : Moved (moves_aSegment σ.corners) c (stood w) (stood w') (length (advance closed σ c (stood w)).strokes)
+  round-moved : Moved (moves_a_segment σ.corners) c (stood w) (stood w') (length (advance closed σ c (stood w)).strokes)
   round-moved = rw (ap (λ (y : Trail). y.stood) round-advanced) (unfold advanced in advance-moved closed σ c (stood w))
 
   round-placed : Placed r' p'
@@ -159,13 +159,13 @@ module _ {closed : Bool} {σ : Settings} {c : PlineVertex} {w : Walk} {p : Place
       record { strokes = ap (λ (y : Trail). y.laid.places.strokes) round-advanced ∙ k.strokes; marks = omega arith }
 
   -- room for the turns after it
-  round-turns : (n : ℕ) → Fit w' → Alike b b' → Turns (moves_aSegment σ.corners) (suc n) w p b → Turns (moves_aSegment σ.corners) n w' p' b'
+  round-turns : (n : ℕ) → Fit w' → Alike b b' → Turns (moves_a_segment σ.corners) (suc n) w p b → Turns (moves_a_segment σ.corners) n w' p' b'
   round-turns n f a h =
       let m = round-moved in
       let k = round-counted in
       let q = h.rooms in
       let few = m.few in
-      let p = product_turns (moves_aSegment σ.corners) n w.leading in
+      let p = product_turns (moves_a_segment σ.corners) n w.leading in
       record {
         fit = f;
         sources = omega (arith, h.sources);
@@ -207,13 +207,13 @@ pub record Walking (closed : Bool) (σ : Settings) (s : List PlineVertex) (v n :
   pub below : k < v
   pub alike : Alike b₀ b
   pub left : advances closed σ (routed v (n - i) k s) (trail_later w p r b) ≡ end
-  pub room : Turns (moves_aSegment σ.corners) (n - i) w p b
+  pub room : Turns (moves_a_segment σ.corners) (n - i) w p b
   pub placed : Placed r p
   pub ahead : chord ≡ chord_of w.vertex (vertex_of s k)
   pub memo : Memo keys sweeps
 
 module _ {closed : Bool} {σ : Settings} {s : List PlineVertex} {v n : ℕ} where
-  pub walking_none : {w : Walk} {p : Places} {r : Later} {b : Contents} {k : ℕ} {chord : Float} → r.due ≡ false → k < v → Turns (moves_aSegment σ.corners) n w p b → chord ≡ chord_of w.vertex (vertex_of s k)
+  pub walking_none : {w : Walk} {p : Places} {r : Later} {b : Contents} {k : ℕ} {chord : Float} → r.due ≡ false → k < v → Turns (moves_a_segment σ.corners) n w p b → chord ≡ chord_of w.vertex (vertex_of s k)
       → Walking closed σ s v n b (advances closed σ (routed v n k s) (trail (record { walk = w; places = p }) b)) 0 k w p r b chord (replicate 16 0) (replicate 16 B.zero)
   walking_none {w} {p} {r} {b} {k} none h t e = let z : n - 0 ≡ n = omega arith in record {
     within = omega arith;
@@ -241,7 +241,7 @@ module _ {closed : Bool} {σ : Settings} {s : List PlineVertex} {v n : ℕ} wher
           left =
               rw (round-advanced x, hk.0, hc)
               (left_more closed σ s v (n - (i + 1)) k (trail_later w p r b) ∙ ap (λ j. advances closed σ (routed v j k s) (trail_later w p r b)) (sym e) ∙ on.left);
-          room = round-turns x (n - (i + 1)) f a (subst (λ j. Turns (moves_aSegment σ.corners) j w p b) e on.room);
+          room = round-turns x (n - (i + 1)) f a (subst (λ j. Turns (moves_a_segment σ.corners) j w p b) e on.room);
           placed = round-placed x;
           ahead = hd ∙ ap (λ (y : PlineVertex). chord_of y (vertex_of s k')) (sym (round-moved x).vertex);
           memo = m;
@@ -256,7 +256,7 @@ module _ {closed : Bool} {σ : Settings} {s : List PlineVertex} {v n : ℕ} wher
     room-later d = let k = on.placed d in omega (arith, on.room.rooms.vertices)
 
     -- its moves are those of the turn by the rules
-    turn-made : (c : PlineVertex) (t : Turned) → turn_shown t ≡ turn_to (stands w) c σ → length (after_span t) + 1 ≤ moves_aSegment σ.corners
+    turn-made : (c : PlineVertex) (t : Turned) → turn_shown t ≡ turn_to (stands w) c σ → length (after_span t) + 1 ≤ moves_a_segment σ.corners
     unfolding turn_to
     turn-made c t h =
         rw (ap (λ (u : Turn). u.connectors) h) (connectors-few σ w.source.0 (stands w).current (offset_seg w.vertex c σ.offset) (pos_of w.vertex))
@@ -267,7 +267,7 @@ module _ {closed : Bool} {σ : Settings} {s : List PlineVertex} {v n : ℕ} wher
         let q = on.room.rooms in
         let l = length-append (tip_first t.join t.connector) (t.connector ∷ []) in
         let k = turn-made c t made in
-        let m = product_one (moves_aSegment σ.corners) (n - i - w.leading) (omega (arith, lt, z)) in
+        let m = product_one (moves_a_segment σ.corners) (n - i - w.leading) (omega (arith, lt, z)) in
         let strokes = ap (λ (x : Reached). x.strokes) h in
         let marks = ap (λ (x : Reached). x.marks) h in
         record {
@@ -279,7 +279,7 @@ module _ {closed : Bool} {σ : Settings} {s : List PlineVertex} {v n : ℕ} wher
 
     -- so many numbers more fit
     pub number-turn : i < n → w.pen.number.0 + 3 < 0x1_0000_0000
-    number-turn lt = omega (arith, on.room.outputs, product_one (moves_aSegment σ.corners) (n - i) (omega (arith, lt)), two-moves σ.corners)
+    number-turn lt = omega (arith, on.room.outputs, product_one (moves_a_segment σ.corners) (n - i) (omega (arith, lt)), two-moves σ.corners)
 
     -- the origins of a turn's moves fit
     pub coded_turn : (c : PlineVertex) (t : Turned) → i < n → turn_shown t ≡ turn_to (stands w) c σ → Coded t.span.origin
@@ -316,11 +316,11 @@ turns-first n m room a {h = h} r e moves three l q =
 
 -- and for those once around, of a walk that is led in
 pub turns-around : {v room : ℕ} {σ : Settings} {pointed : Bool} {h : Sheet} {s : List PlineVertex} {b : Contents} → Drawable v v room σ pointed s b → Entered σ h
-    → Turns (moves_aSegment σ.corners) (v - 1) h.walk h.places b
+    → Turns (moves_a_segment σ.corners) (v - 1) h.walk h.places b
 turns-around {v} {σ = σ} d e =
     let r = d.ready in
-    let m = product_less (moves_aSegment σ.corners) v (omega (arith, r.two)) in
-    let most = product_most (moves_aSegment σ.corners) 3 (v - 1) (moves-few σ.corners) in
+    let m = product_less (moves_a_segment σ.corners) v (omega (arith, r.two)) in
+    let most = product_most (moves_a_segment σ.corners) 3 (v - 1) (moves-few σ.corners) in
     let q = d.enough in
     let z : v - 1 - 0 ≡ v - 1 = omega arith in
     record {

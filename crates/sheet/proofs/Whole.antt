@@ -30,7 +30,7 @@ use Rattle.moves.proofs.Shapes.{path, path_fits, ray, length_ray, ray_fits, noth
 use Rattle.joins.specs.declared.JoinBoundary.{JoinBoundary}
 use Rattle.joins.specs.Corner.{is_pointed}
 use Rattle.joins.proofs.Corner.{tip-mode}
-use Rattle.walk.specs.Walk.{moves_aSegment, join_at, closing_join, walk_start, walk_moves, walk_drawing, lone_collapsed, drawing_of}
+use Rattle.walk.specs.Walk.{moves_a_segment, join_at, closing_join, walk_start, walk_moves, walk_drawing, lone_collapsed, drawing_of}
 use Rattle.walk.specs.InnerSteps.{Stood, stood, Fit, standing_at, span_to, last_span, drawn_by, strokes_by, advance, goes, drawn_on}
 use Rattle.walk.proofs.Turning.{led-undrawn}
 use Rattle.walk.proofs.Around.{open_led, open_drawn, open_current, led_in, closed-led, closed-undrawn, closed-drawn}
@@ -160,12 +160,12 @@ walked closed σ vs a n old = advances closed σ vs (record { stood = standing_a
 -- ---- after turns from the first places on there is room for the last t moves
 pub lasts_after : (closed : Bool) (σ : Settings) (s : List PlineVertex) (v n k t room : ℕ) (h h' : Sheet) {b b' : Contents} → Ready v room s b → Alike b b'
     → (h.places.strokes ≡ 0) × (h.places.marks ≡ 0) × (h.walk.pen.number.0 ≡ 0) × (h.walk.source.0 ≡ 0)
-    → moves_aSegment σ.corners * (n - h.walk.leading) + t ≤ room → (n ≤ 4096) × (t ≤ 3) → room ≤ 12288
+    → moves_a_segment σ.corners * (n - h.walk.leading) + t ≤ room → (n ≤ 4096) × (t ≤ 3) → room ≤ 12288
     → trail h' b' ≡ advances closed σ (routed v n k s) (trail h b) → Lasts t room h' b'
 lasts_after closed σ s v n k t room h h' {b} ready alike none few most small e =
     let l = length-routed v n k s in
     let g = rw (l, ← e) at (advances_gone closed σ (routed v n k s) (trail h b)) in
-    let m = product_most (moves_aSegment σ.corners) 3 n (moves-few σ.corners) in
+    let m = product_most (moves_a_segment σ.corners) 3 n (moves-few σ.corners) in
     record {
       sources = omega (arith, g.source, none.3, most.0);
       outputs = omega (arith, g.number, none.2, m, most.0, most.1);
@@ -184,8 +184,8 @@ pub first-lasts : (σ : Settings) (s : List PlineVertex) (v k room : ℕ) (point
 unfolding standing_at
 first-lasts σ s v k room pointed a h h' d alike first e =
     let leading : h.walk.leading ≡ 1 = ap (λ (x : Stood). x.leading) first.0 in
-    let m = product_less (moves_aSegment σ.corners) (v - 1) (omega (arith, d.ready.two)) in
-    let few : moves_aSegment σ.corners * (v - 1 - h.walk.leading) + 2 ≤ room = rw leading (omega (arith, m, d.enough, two-moves σ.corners)) in
+    let m = product_less (moves_a_segment σ.corners) (v - 1) (omega (arith, d.ready.two)) in
+    let few : moves_a_segment σ.corners * (v - 1 - h.walk.leading) + 2 ≤ room = rw leading (omega (arith, m, d.enough, two-moves σ.corners)) in
     lasts_after false σ s v (v - 1) k 2 room h h' d.ready alike (
       ap (λ (x : Places). x.strokes) first.2,
       ap (λ (x : Places). x.marks) first.2,
@@ -195,19 +195,19 @@ first-lasts σ s v k room pointed a h h' d alike first e =
     few (omega (arith, d.ready.most), omega arith) d.small e
 
 -- of a closed one: the last span, and the connectors of the join that led in
-pub closing-few : (σ : Settings) (i : ℕ) (j : JoinBoundary) → (is_pointed j.cause ≡ true → are_pointed σ.corners ≡ true) → 1 + length (connector_moves i j) ≤ moves_aSegment σ.corners
+pub closing-few : (σ : Settings) (i : ℕ) (j : JoinBoundary) → (is_pointed j.cause ≡ true → are_pointed σ.corners ≡ true) → 1 + length (connector_moves i j) ≤ moves_a_segment σ.corners
 unfolding connector_moves
 closing-few σ i j tipped =
-    either_tip i j (λ (ms : List Move). 1 + length (ms ++ connector_move i j ∷ []) ≤ moves_aSegment σ.corners) (λ e. omega (arith, two-moves σ.corners))
+    either_tip i j (λ (ms : List Move). 1 + length (ms ++ connector_move i j ∷ []) ≤ moves_a_segment σ.corners) (λ e. omega (arith, two-moves σ.corners))
     (λ e. omega (arith, three-moves σ.corners (tipped e)))
 
 pub around-lasts : (σ : Settings) (s : List PlineVertex) (v k room : ℕ) (pointed : Bool) (h h' : Sheet) {b b' : Contents} → Drawable v v room σ pointed s b → Alike b b' → Entered σ h
     → trail h' b' ≡ advances true σ (routed v (v - 1) k s) (trail h b) → Lasts (length (closing_moves h'.walk h.walk.entry)) room h' b'
 around-lasts σ s v k room pointed h h' d alike en e =
-    let m = product_less (moves_aSegment σ.corners) v (omega (arith, d.ready.two)) in
+    let m = product_less (moves_a_segment σ.corners) v (omega (arith, d.ready.two)) in
     let c = closing-few σ h'.walk.source.0 h.walk.entry en.tipped in
     let z : v - 1 - 0 ≡ v - 1 = omega arith in
-    let few : moves_aSegment σ.corners * (v - 1 - h.walk.leading) + length (closing_moves h'.walk h.walk.entry) ≤ room = rw (en.leading, z) (omega (arith, m, d.enough, c)) in
+    let few : moves_a_segment σ.corners * (v - 1 - h.walk.leading) + length (closing_moves h'.walk h.walk.entry) ≤ room = rw (en.leading, z) (omega (arith, m, d.enough, c)) in
     lasts_after true σ s v (v - 1) k _ room h h' d.ready alike (en.strokes, en.marks, en.number, en.source) few
     (omega (arith, d.ready.most), omega (arith, c, moves-few σ.corners)) d.small e
 
@@ -299,7 +299,7 @@ module _ (σ : Settings) (s : List PlineVertex) (v room : ℕ) (pointed : Bool) 
     open_few =
         let o = others s v d.ready.long d.ready.two in
         let e : length (rest s) ≡ v - 1 - 1 = omega (arith, o) in
-        let m = product_less (moves_aSegment σ.corners) (v - 1) (omega (arith, d.ready.two)) in
+        let m = product_less (moves_a_segment σ.corners) (v - 1) (omega (arith, d.ready.two)) in
         omega (arith, few false σ s, rw e at (open_most σ (vertex_of s 0) (vertex_of s 1) (rest s)), m, d.enough, two-moves σ.corners)
 
     -- the walk with its last span, which is not a lone collapsed arc

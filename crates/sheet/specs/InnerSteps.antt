@@ -26,7 +26,7 @@ use Rattle.moves.specs.Made.{segment_of, connector_moves}
 use Rattle.moves.specs.InnerSteps.{step_of, sure}
 use Rattle.walk.specs.declared.Walk.{Walk}
 use Rattle.walk.specs.declared.Turned.{Turned}
-use Rattle.walk.specs.Walk.{moves_aSegment}
+use Rattle.walk.specs.Walk.{moves_a_segment}
 use Rattle.walk.specs.InnerSteps.{Standing, stands, Stood, stood, Fit, span_to, last_span, drawn_by, strokes_by, advance}
 use Rattle.sheet.specs.declared.Places.{Places}
 use Rattle.sheet.specs.declared.Later.{Later}
@@ -242,7 +242,7 @@ pub record Ready (v room : ℕ) (vs : List PlineVertex) (b : Contents) : Type 0 
 pub record Drawable (v n room : ℕ) (σ : Settings) (pointed : Bool) (vs : List PlineVertex) (b : Contents) : Type 0 where
   pub ready : Ready v room vs b
   pub told : pointed ≡ are_pointed σ.corners
-  pub enough : moves_aSegment σ.corners * n ≤ room
+  pub enough : moves_a_segment σ.corners * n ≤ room
   pub small : room ≤ 12288
 
 -- ---- the end of a walk

@@ -3,6 +3,8 @@
 // three has all the numbers, and nothing is done with the others.
 // This layer alone knows them; the walk that it stores is by value. A vertex is stored when it is left,
 // with the bulge of the move that leaves it, so that nothing is stored twice.
+#![tactic(auto)]
+
 ghost use Rattle.std.specs.Prelude.{◌≡◌, true, false, [], ◌∷◌, ◌++◌, ◌+◌, ◌*◌, ◌-◌, ◌≤◌, ◌<◌, eqb, length, set, take};
 ghost use Rattle.floats.specs.Choice.{when◌give◌else◌, ◌and◌};
 ghost use Rattle.angles.specs.Angle.{sweep_of, bulge_of};
@@ -16,7 +18,7 @@ ghost use Rattle.joins.specs.Corner.{is_pointed};
 ghost use Rattle.moves.specs.Origins.{origins_in};
 ghost use Rattle.moves.specs.Drawing.{bit, result_of};
 ghost use Rattle.moves.specs.InnerSteps.{step_of, tip_first, sure};
-ghost use Rattle.walk.specs.Walk.{moves_aSegment, drawing_of, spans_from, copied};
+ghost use Rattle.walk.specs.Walk.{moves_a_segment, drawing_of, spans_from, copied};
 ghost use Rattle.walk.specs.InnerSteps.{stood, standing_at, Fit, made_by, drawn_by, strokes_by, pen_by};
 ghost use Rattle.sheet.specs.Buffers.{no_origin};
 ghost use Rattle.sheet.specs.InnerSteps.{held_by, held, showing, no_places, reached, laid, put_at, stored, stores, bulge_at, bulged_at, Begun, reached_later, later_of, trail, advances, routed, Coded};
@@ -29,7 +31,7 @@ use walk::{Turned, Walk};
 
 // Where the next stroke and the next index go. `doubt` is a NaN from the first number stored that is not
 // finite on, and else zero. Places are apart from output numbers: a walk may be handed out in pieces.
-#[derive(Drop)]
+#[derive(Clone, Copy)]
 pub struct Places {
     pub strokes: usize,
     pub marks: usize,
@@ -165,7 +167,7 @@ pub fn store(
 // A bulge that is still to be written, where `due` says so: of the vertex stored at `place`, by what its
 // segment sweeps. It is a long chain of steps that nothing waits for, so it is worked out one turn later,
 // half of it before that turn's join and half after it: a processor can look ahead of a part of it.
-#[derive(Drop)]
+#[derive(Clone, Copy)]
 pub struct Later {
     pub due: bool,
     pub place: usize,
@@ -221,7 +223,7 @@ impl Later {
 }
 
 // What a move leaves: whether it was drawn, the pen, and the places after it.
-#[derive(Drop)]
+#[derive(Clone, Copy)]
 pub struct Drawn {
     pub drawn: bool,
     pub pen: Pen,
@@ -355,7 +357,7 @@ fn store_connectors(
 
 // What a turn leaves: the pen and the places after its strokes, and the bulge that is still to be
 // written.
-#[derive(Drop)]
+#[derive(Clone, Copy)]
 pub struct Left {
     pub pen: Pen,
     pub places: Places,
@@ -453,7 +455,7 @@ fn sweep_from(
 }
 
 // The walk, and how far its strokes are stored.
-#[derive(Drop)]
+#[derive(Clone, Copy)]
 pub struct Sheet {
     pub walk: Walk,
     pub places: Places,
@@ -497,7 +499,7 @@ fn store_turns(
     origins: &mut [u32],
 ) -> Sheet
     requires pointed_value { pointed ≡ are_pointed settings.corners }
-    requires starts { Starts (moves_aSegment settings.corners) v «from» turns first (vertices_in (lent_by columns xs.now ys.now bulges.now)) (held columns outxs.old outys.old outbulges.old flags.old indexes.old origins.old) }
+    requires starts { Starts (moves_a_segment settings.corners) v «from» turns first (vertices_in (lent_by columns xs.now ys.now bulges.now)) (held columns outxs.old outys.old outbulges.old flags.old indexes.old origins.old) }
     ensures origins_after { trail result (held columns outxs.new outys.new outbulges.new flags.new indexes.new origins.new)
         ≡ advances closed settings (routed v turns «from» (vertices_in (lent_by columns xs.now ys.now bulges.now))) (trail first (held columns outxs.old outys.old outbulges.old flags.old indexes.old origins.old)) }
     ensures fit { Fit result.walk }
@@ -622,7 +624,7 @@ fn wipe(
 }
 
 // What was built: an answer, or numbers that are not all finite.
-#[derive(Drop)]
+#[derive(Clone, Copy)]
 pub enum Built {
     Done(RawOffsetResult),
     NotFinite,

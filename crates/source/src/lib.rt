@@ -3,6 +3,8 @@
 // Code for both has three lists, and is told whether they are columns: in rows the first has all the
 // numbers, and nothing is done with the others. It is a bool that tells, for the compiler: it follows one
 // from call to call, and leaves the other layout out.
+#![tactic(auto)]
+
 ghost use Rattle.std.specs.Prelude.{◌≡◌, ◌<◌, length};
 ghost use Rattle.source.specs.Source.{segments_of, vertices_of, vertices_in};
 ghost use Rattle.source.specs.InnerSteps.{lent_by, least_of, count_by, whole_by, vertex_of, next_of};

@@ -1,5 +1,7 @@
 // The sweeps of the bulges that a walk has met, kept for the arcs to come: most drawings have few
 // different bulges.
+#![tactic(auto)]
+
 ghost use Rattle.std.specs.Prelude.{◌≡◌, ◌≤◌, ◌<◌, length};
 ghost use Rattle.angles.specs.Angle.{sweep_of};
 ghost use Rattle.source.specs.Source.{vertices_in};

@@ -27,9 +27,9 @@ unfoldable pub join_at : Settings → PlineVertex → PlineVertex → PlineVerte
 join_at σ a b c = corner_join (offset_seg a b σ.offset) (offset_seg b c σ.offset) (pos_of b) σ
 
 -- the moves of a segment at most: 01's two, its span and a connector, and three in the pointed mode
-abbrev pub moves_aSegment : Corners → ℕ
-moves_aSegment Round = 2
-moves_aSegment (Pointed ratio) = 3
+abbrev pub moves_a_segment : Corners → ℕ
+moves_a_segment Round = 2
+moves_a_segment (Pointed ratio) = 3
 
 -- From segment i on, which runs from a to b and whose span starts at the parameter t: span, connector, and so on over the vertices after b. `last` has the moves of
 -- the last segment, from its number, itself and the parameter where its span starts.

@@ -8,7 +8,7 @@ use lib.ListN.{length}
 use Rattle.segments.specs.declared.PlineVertex.{PlineVertex}
 use Rattle.segments.specs.declared.Settings.{Settings}
 use Rattle.source.specs.InnerSteps.{vertex_of, next_of}
-use Rattle.walk.specs.Walk.{moves_aSegment}
+use Rattle.walk.specs.Walk.{moves_a_segment}
 use Rattle.walk.specs.InnerSteps.{stood, Fit, advance}
 use Rattle.walk.proofs.Lengths.{moves-few}
 use Rattle.sheet.specs.InnerSteps.{routed}
@@ -34,7 +34,7 @@ module _ {closed : Bool} {σ : Settings} {k : ℕ} {vs : List PlineVertex} {v n 
         let z : n - i ≡ suc (n - (i + 1)) = omega arith in
         let more : asks closed σ k (routed v (suc (n - (i + 1))) p vs) (asked a) ≡ asks closed σ k (routed v (n - (i + 1)) (next_of v p) vs) (asked_turn closed σ k (vertex_of vs p) (asked a)) =
         unfold asks routed in refl in
-        let m : Moved (moves_aSegment σ.corners) c (stood a.walk) (stood a'.walk) (length (advance closed σ c (stood a.walk)).strokes) = rw (ap (λ (q : Asked). q.stood) e) (unfold asked_turn in advance-moved closed σ c (stood a.walk)) in
+        let m : Moved (moves_a_segment σ.corners) c (stood a.walk) (stood a'.walk) (length (advance closed σ c (stood a.walk)).strokes) = rw (ap (λ (q : Asked). q.stood) e) (unfold asked_turn in advance-moved closed σ c (stood a.walk)) in
         let r = on.ready in
         record {
           within = omega arith;

@@ -1,6 +1,8 @@
 // Why an output segment's flag is set or clear: which move it is, for what reason, and by which rules
 // its span was trimmed. The walk is walked as for a drawing, turn by turn, and nothing is stored: the
 // stroke with the number asked for is told, and the rest is looked at for numbers that are not finite.
+#![tactic(auto)]
+
 ghost use Rattle.std.specs.Prelude.{◌≡◌, true, false, not, ◌+◌, ◌*◌, ◌-◌, ◌≤◌, ◌<◌, eqb, ltb, length};
 ghost use Rattle.floats.specs.Choice.{when◌give◌else◌, ◌and◌};
 ghost use Rattle.source.specs.Source.{rows, vertices_of, segments_of};
@@ -26,7 +28,7 @@ use walk::Walk;
 
 // What is told of an output segment. The parameters are those of a span that turned back, and else zero;
 // the rules those by which an arc's span was trimmed.
-#[derive(Drop)]
+#[derive(Clone, Copy)]
 pub struct Telling {
     pub origin: Origin,
     pub reason: Reason,
@@ -36,7 +38,7 @@ pub struct Telling {
     pub end_rule: ArcRule,
 }
 
-#[derive(Drop)]
+#[derive(Clone, Copy)]
 pub enum WhyAnswer {
     Told(Telling),
     Refused(Refusal),
@@ -44,7 +46,7 @@ pub enum WhyAnswer {
 
 // An answer in numbers, for callers: number and place of a refusal; whether it is a connector, its source
 // segment and its reason; the rules at its start and at its end; both parameters.
-#[derive(Drop)]
+#[derive(Clone, Copy)]
 pub struct WhyNumbers {
     pub number: u32,
     pub place: u32,
@@ -172,7 +174,7 @@ fn answer_with(
 
 // The pen, the answer so far, and a doubt: a NaN from the first number drawn that is not finite on, and
 // else zero.
-#[derive(Drop)]
+#[derive(Clone, Copy)]
 pub struct Note {
     pub pen: Pen,
     pub answer: WhyAnswer,
@@ -255,7 +257,7 @@ fn entry_after(
 
 // A walk that is asked for one of its strokes. `entry` is where the walk's span starts, with the rules,
 // which the walk itself leaves behind.
-#[derive(Drop)]
+#[derive(Clone, Copy)]
 pub struct Asking {
     pub walk: Walk,
     pub entry: JoinBoundary,

@@ -3,6 +3,8 @@
 // many numbers its source has, its mode (1 for closed, and 2 more for pointed corners), offset, tolerance,
 // of pointed corners the ratio, and the source. The stored output comes from
 // the traced job in Rust (`oracle`, `samples`), which says which branch of 000 it took.
+#![tactic(auto)]
+
 use segments::{OutputSegment, Settings};
 use words::{print, read_number, read_word};
 

@@ -1,5 +1,7 @@
 // The whole way of `rawwhy`: from the bytes of a question, the number of an output segment and a packed
 // job, round or pointed, to the bytes of its answer. The program itself only reads the ones and writes the others.
+#![tactic(auto)]
+
 ghost use Rattle.std.specs.Prelude.{◌≡◌, ◌++◌, ◌≤◌, length, drop};
 ghost use Rattle.io.specs.Counts.{IsPrefixLen};
 ghost use Rattle.words.specs.Words.{big_endian};

@@ -1,5 +1,7 @@
 // Numbers in bytes, most significant first, as packed jobs and the programs' stored rows hold them;
 // and how the programs over stored samples print.
+#![tactic(auto)]
+
 ghost use Rattle.std.specs.Prelude.{◌≡◌, ◌+◌, ◌*◌, ◌≤◌, ◌<◌, ltb, length};
 ghost use Rattle.floats.specs.Choice.{when◌give◌else◌};
 ghost use Rattle.words.specs.Words.{big_endian, number_at};

@@ -1,0 +1,32 @@
+-- `four_small_atans` meets its contract. Assumes nothing.
+use Rattle.angles.proofs.Steps.{small_steps}
+use Rattle.angles.proofs.four_small_atans.Goals as goal
+
+pub returns : goal.returns
+returns c =
+    let second = c.before.before.before.before.before.before.before.before in
+    let first = second.before.before.before.before in
+    let start = first.before.before.before.before in
+    simp (
+      c.atan_by_eighth-4.ensures,
+      c.halved-4.ensures,
+      c.atan_by_eighth-3.ensures,
+      c.halved-3.ensures,
+      c.atan_by_eighth-2.ensures,
+      c.halved-2.ensures,
+      c.atan_by_eighth.ensures,
+      c.halved.ensures,
+      second.halved-d2.ensures,
+      second.halved-c2.ensures,
+      second.halved-b2.ensures,
+      second.halved-a2.ensures,
+      first.halved-d1.ensures,
+      first.before.halved-c1.ensures,
+      first.before.before.halved-b1.ensures,
+      first.before.before.before.halved-a1.ensures,
+      start.of-d0.ensures,
+      start.before.of-c0.ensures,
+      start.before.before.of-b0.ensures,
+      start.before.before.before.of-a0.ensures,
+      small_steps,
+    )

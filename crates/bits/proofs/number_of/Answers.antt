@@ -1,0 +1,11 @@
+-- `number_of` meets its contract. Assumes nothing.
+use mathlib.Core.Path.{◌∙◌}
+use borrow.Author.Rules.{rules}
+use Rattle.bits.proofs.Nans.{above, not-above, made}
+use Rattle.bits.proofs.number_of.Goals as goal
+
+pub returns-then-bits-gt-INFINITY : goal.returns-then-bits-gt-INFINITY
+returns-then-bits-gt-INFINITY c = made ∙ above _ c.if-bits-gt-INFINITY.true
+
+pub float_from_bits-result : goal.float_from_bits-result
+float_from_bits-result c = not-above _ c.if-bits-gt-INFINITY.false

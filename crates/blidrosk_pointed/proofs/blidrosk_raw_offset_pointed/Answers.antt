@@ -1,0 +1,11 @@
+-- `blidrosk_pointed::blidrosk_raw_offset_pointed` meets its contract. Assumes nothing.
+use borrow.Author.Rules.{rules}
+use mathlib.Core.Path.{ap, ◌∙◌}
+use Rattle.job.specs.Job.{Outcome}
+use Rattle.job.specs.Handed.{handed, handed_of}
+use Rattle.blidrosk_pointed.proofs.blidrosk_raw_offset_pointed.Goals as goal
+
+pub returns : goal.returns
+unfolding handed_of
+returns c =
+    rw (c.hand.ensures.0, c.hand.ensures.1) (ap (λ (o : Outcome). handed_of o) c.create_raw_offset_pointed-a.ensures)

@@ -1,0 +1,32 @@
+-- `compare::count_entries` meets its contract. Assumes nothing.
+use mathlib.Core.Path.{◌≡◌, refl, sym, ap, ◌∙◌}
+use Prim.Native.Nat.{◌+◌, ◌-◌, ◌≤◌}
+use native.Mathlib.Omega.{arith}
+use lib.ListN.{length}
+use Rattle.source.specs.Source.{vertices_of}
+use Rattle.compare.specs.Compare.{fields_at, entries_for, entries_to}
+use Rattle.compare.proofs.Entries.{length-next}
+use Rattle.compare.proofs.count_entries.Goals as goal
+
+pub loop-k-init : goal.loop-k-init
+unfolding entries_to
+loop-k-init c = (omega arith, (refl, omega arith))
+
+pub fields_at-requires : goal.fields_at-requires
+fields_at-requires c = (omega arith, omega arith)
+
+pub loop-k-preserved : goal.loop-k-preserved
+loop-k-preserved c =
+    let k = c.loop-k.k in
+    let a = c.args in
+    let n = length-next (vertices_of a.a.now) a.a_flags.now (vertices_of a.b.now) a.b_flags.now k in
+    let one = c.entries_for-count.ensures.by_index k ∙ ap (λ f. length (entries_for k f)) c.fields_at.ensures in
+    (omega arith, (omega arith, omega arith))
+
+pub returns : goal.returns
+returns c =
+    let ended : c.loop-k.k ≡ c.args.most = omega arith in
+    record {
+      value = rw (← ended) c.loop-k.invariant.1.0;
+      upper_bound = omega arith;
+    }

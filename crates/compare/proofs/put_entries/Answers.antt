@@ -1,0 +1,61 @@
+-- `compare::put_entries` meets its contract. Assumes nothing.
+use mathlib.Core.Path.{◌≡◌, refl, sym, ap, ◌∙◌}
+use mathlib.Core.List.{List, map}
+use Prim.Native.Nat.{ℕ, ◌+◌, ◌-◌, ◌≤◌, ◌<◌}
+use native.Mathlib.Omega.{arith}
+use lib.ListN.{length}
+use lib.Seq.{sets, length-sets}
+use Rattle.source.specs.Source.{vertices_of}
+use Rattle.compare.specs.declared.Fields.{Fields}
+use Rattle.compare.specs.Compare.{fields_at, entries_for, entries_to, number_in, code_in, at_front}
+use Rattle.compare.proofs.Entries.{length-next, entries_mono, list-next}
+use Rattle.compare.proofs.put_entries.Goals as goal
+
+pub loop-k-init : goal.loop-k-init
+unfolding entries_to
+loop-k-init c = ((omega arith, refl), ((refl, refl), (refl, refl)))
+
+pub fields_at-differing-requires : goal.fields_at-differing-requires
+fields_at-differing-requires c = (omega arith, omega arith)
+
+pub put_entry-at-requires : goal.put_entry-at-requires
+put_entry-at-requires c =
+    let a = c.args in
+    let l = c.loop-k in
+    let n = length-next (vertices_of a.a.now) a.a_flags.now (vertices_of a.b.now) a.b_flags.now l.k in
+    let m = entries_mono (vertices_of a.a.now) a.a_flags.now (vertices_of a.b.now) a.b_flags.now (l.k + 1) a.most (omega arith) in
+    let one = ap (λ (f : Fields). length (entries_for l.k f)) c.fields_at-differing.ensures in
+    record {
+      differing_in_bounds = omega arith;
+      differing_in_bounds_2 = omega arith;
+    }
+
+pub loop-k-preserved : goal.loop-k-preserved
+loop-k-preserved c =
+    let a = c.args in
+    let l = c.loop-k in
+    let put = c.put_entry-at in
+    let is = c.fields_at-differing.ensures in
+    let n = length-next (vertices_of a.a.now) a.a_flags.now (vertices_of a.b.now) a.b_flags.now l.k in
+    let m = entries_mono (vertices_of a.a.now) a.a_flags.now (vertices_of a.b.now) a.b_flags.now (l.k + 1) a.most (omega arith) in
+    let one = ap (λ (f : Fields). length (entries_for l.k f)) is in
+    let entry = entries_for l.k (fields_at (vertices_of a.a.now) a.a_flags.now (vertices_of a.b.now) a.b_flags.now l.k) in
+    let numbers = put.ensures.numbers_after ∙ ap (λ (f : Fields). sets l.numbers-1 l.at (map number_in (entries_for l.k f))) is in
+    let fields = put.ensures.fields_after ∙ ap (λ (f : Fields). sets l.fields-1 l.at (map code_in (entries_for l.k f))) is in
+    let next-numbers = list-next number_in (vertices_of a.a.now) a.a_flags.now (vertices_of a.b.now) a.b_flags.now l.k a.numbers-1.now l.invariant.1.0.0 l.invariant.0.1 (omega arith) numbers in
+    let next-fields = list-next code_in (vertices_of a.a.now) a.a_flags.now (vertices_of a.b.now) a.b_flags.now l.k a.fields-1.now l.invariant.1.1.0 l.invariant.0.1 (omega arith) fields in
+    ((omega arith, omega arith), ((next-numbers, ap length numbers ∙ length-sets l.numbers-1 l.at (map number_in entry) ∙ l.invariant.1.0.1), (next-fields, ap length fields ∙ length-sets l.fields-1 l.at (map code_in entry) ∙ l.invariant.1.1.1)))
+
+pub shape_of-numbers : goal.shape_of-numbers
+shape_of-numbers c = c.loop-k.invariant.1.0.1
+
+pub shape_of-fields : goal.shape_of-fields
+shape_of-fields c = c.loop-k.invariant.1.1.1
+
+pub returns : goal.returns
+returns c =
+    let ended : c.loop-k.k ≡ c.args.most = omega arith in
+    record {
+      numbers_after = rw (← ended) c.loop-k.invariant.1.0.0;
+      fields_after = rw (← ended) c.loop-k.invariant.1.1.0;
+    }

@@ -1,0 +1,7 @@
+-- `intersections::point_from_parametric` meets its contract. Assumes nothing.
+use Rattle.intersections.specs.Points.{point_at}
+use Rattle.intersections.proofs.point_from_parametric.Goals as goal
+
+pub returns : goal.returns
+unfolding point_at
+returns c = simp (c.add.ensures, c.scale.ensures, c.sub.ensures)

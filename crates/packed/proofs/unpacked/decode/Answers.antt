@@ -1,0 +1,18 @@
+-- `decode` meets its contract. Assumes nothing.
+use borrow.Author.Rules.{rules}
+use mathlib.Core.Path.{◌∙◌}
+use Rattle.packed.proofs.Bytes.{decoded-round, decoded-short, decoded-pointed}
+use Rattle.packed.proofs.unpacked.decode.Goals as goal
+
+pub returns-then-not-has_ratio : goal.returns-then-not-has_ratio
+returns-then-not-has_ratio c =
+    c.decode_by.ensures ∙ decoded-round _ _ _ c.has_ratio.ensures c.if-not-has_ratio.true
+
+pub returns-then-bytes-lt8 : goal.returns-then-bytes-lt8
+returns-then-bytes-lt8 c = decoded-short _ _ _ c.if-bytes-lt8.true
+
+pub returns : goal.returns
+returns c =
+    let read = c.before.before.before in
+    let tested = read.before.before.before in
+    c.decode_by-2.ensures ∙ decoded-pointed _ _ _ tested.has_ratio.ensures read.if-not-has_ratio.false read.number_at-ratio.ensures

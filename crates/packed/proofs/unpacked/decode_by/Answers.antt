@@ -1,0 +1,59 @@
+-- `decode_by` meets its contract. Assumes nothing.
+use borrow.Author.Rules.{rules}
+use borrow.Author.Tests.{not-true}
+use mathlib.Core.Path.{refl, sym, ap, ◌∙◌}
+use Prim.Native.Nat.{◌*◌, ◌%◌, ◌≤◌}
+use native.Mathlib.Omega.{arith}
+use lib.ListN.{length}
+use Rattle.floats.proofs.Choice.{yes, no}
+use Rattle.packed.specs.Packed.{closed_of, count_of, decoded, decoded_by, eps_of, header_of, packed_of, offset_of, source_of}
+use Rattle.packed.proofs.Bytes.{few, formed, placed, sized}
+use Rattle.packed.proofs.unpacked.decode_by.Goals as goal
+
+pub returns-then-not-well_formed : goal.returns-then-not-well_formed
+unfolding decoded_by
+returns-then-not-well_formed c = no _ _ _ (sym c.well_formed-2.ensures ∙ not-true _ c.if-not-well_formed.true) refl
+
+pub big_endian-header-requires : goal.big_endian-header-requires
+big_endian-header-requires c =
+    let n = sized _ (formed _ c.well_formed-2.ensures c.if-not-well_formed.false) in
+    record {
+      count_in_bounds = omega arith;
+      count_bound = omega arith;
+    }
+
+pub fill-requires : goal.fill-requires
+unfolding count_of header_of
+fill-requires c =
+    let well = formed _ c.well_formed-2.ensures c.if-not-well_formed.false in
+    let n = sized _ well in
+    let m = few _ well in
+    let h = c.big_endian-header.ensures in
+    record {
+      count_in_bounds = omega arith;
+      count_in_bounds_2 = omega arith;
+    }
+
+pub number_at-requires : goal.number_at-requires
+number_at-requires c =
+    let n = sized _ (formed _ c.well_formed-2.ensures c.if-not-well_formed.false) in
+    omega arith
+
+pub number_at-requires-2 : goal.number_at-requires-2
+number_at-requires-2 c =
+    let n = sized _ (formed _ c.well_formed-2.ensures c.if-not-well_formed.false) in
+    omega arith
+
+pub returns : goal.returns
+unfolding decoded_by count_of header_of closed_of offset_of eps_of source_of packed_of
+returns c =
+    let a = c.args in
+    let well = formed _ c.well_formed-2.ensures c.if-not-well_formed.false in
+    let m = few _ well in
+    let h = c.big_endian-header in
+    let n = 3 * (h.result % 4096) in
+    let e = h.ensures in
+    let fits : n ≤ length a.source.now = omega arith in
+    yes _ _ _ well
+    (rw (← e, c.number_at.ensures, c.number_at-2.ensures, c.fill.ensures)
+    (ap (decoded _) (placed a.bytes.now n a.source.now fits)))

@@ -1,0 +1,7 @@
+-- `has_ratio` meets its contract. Assumes nothing.
+use borrow.Author.Rules.{rules}
+use mathlib.Core.Path.{refl}
+use Rattle.packed.proofs.unpacked.has_ratio.Goals as goal
+
+pub returns-in-Either : goal.returns-in-Either
+returns-in-Either c = rw c.in-Either.is refl

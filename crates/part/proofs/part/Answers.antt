@@ -1,0 +1,24 @@
+-- `part::part` meets its contract. Assumes nothing.
+use mathlib.Core.Path.{◌≡◌, ap, ◌∙◌}
+use Prim.Native.Nat.{◌-◌, ◌≤◌}
+use native.Mathlib.Omega.{arith}
+use borrow.Author.Rules.{rules}
+use lib.ListN.{length}
+use Rattle.part.specs.declared.Bounds.{Bounds}
+use Rattle.part.specs.Part.{bounds_of, flags_in, stand_in}
+use Rattle.part.proofs.Found.{end_of, answer-within}
+use Rattle.part.proofs.part.Goals as goal
+
+pub slice_bounds-result-end : goal.slice_bounds-result-end
+slice_bounds-result-end = part-result-end
+
+pub returns : goal.returns
+unfolding flags_in stand_in
+returns c =
+    let flags = c.args.flags in
+    let is = c.bounds-bounds.ensures ∙ ap bounds_of c.find-answer.ensures in
+    let count : end_of c.bounds-bounds.result-1 - c.bounds-bounds.result-1.start.0 ≡ c.bounds-bounds.result-1.count = omega arith in
+    record {
+      result_value = rw count (ap (λ (part : Bounds). flags_in part flags.now) is);
+      ref_ptr_value = ap (λ (part : Bounds). stand_in part flags.ref_ptr) is;
+    }

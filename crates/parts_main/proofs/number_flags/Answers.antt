@@ -1,0 +1,13 @@
+-- Each place lies in the slice, and each number in a byte. Assumes nothing.
+use mathlib.Core.Path.{◌≡◌}
+use Prim.Native.Nat.{◌≤◌, ◌-◌}
+use lib.ListN.{length, length-set}
+use borrow.Author.Rules.{rules}
+use native.Mathlib.Omega.{arith}
+use Rattle.parts_main.proofs.number_flags.Goals as goal
+
+pub loop-i-preserved : goal.loop-i-preserved
+loop-i-preserved c = simp length-set (omega arith)
+
+pub shape_of-flags : goal.shape_of-flags
+shape_of-flags c = c.loop-i.invariant.2

@@ -1,0 +1,13 @@
+-- Each place that is read into lies in the slice. Assumes nothing.
+use mathlib.Core.Path.{◌≡◌}
+use Prim.Native.Nat.{◌≤◌, ◌-◌}
+use lib.ListN.{length, length-set}
+use borrow.Author.Rules.{rules}
+use native.Mathlib.Omega.{arith}
+use Rattle.parts_main.proofs.read_origins.Goals as goal
+
+pub loop-i-preserved : goal.loop-i-preserved
+loop-i-preserved c = simp length-set (omega arith)
+
+pub shape_of-origins : goal.shape_of-origins
+shape_of-origins c = c.loop-i.invariant.2

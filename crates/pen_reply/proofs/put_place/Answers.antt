@@ -1,0 +1,44 @@
+-- `put_place` meets its contract. Assumes nothing.
+use borrow.Author.Rules.{rules}
+use mathlib.Core.Path.{refl}
+use native.Mathlib.Omega.{arith}
+use Rattle.source.specs.Source.{vertices_of}
+use Rattle.source.proofs.Source.{length-vertices}
+use Rattle.pen_reply.proofs.Rows.{at-segment, at_last, at_none}
+use Rattle.pen_reply.proofs.put_place.Goals as goal
+
+pub vertex_at-v-requires : goal.vertex_at-v-requires
+vertex_at-v-requires c = omega (arith, length-vertices c.args.vertices.now, (c.requires.vertices_len, c.requires.i_bound))
+
+pub returns-then-i-answer : goal.returns-then-i-answer
+returns-then-i-answer c =
+    let a = c.args in
+    let e = at-segment a.answer (vertices_of a.vertices.now) a.flags.now a.origins.now a.i c.if-i-answer.true c.vertex_at-v.ensures c.of_code.ensures in
+    record {
+      value = rw (← e) c.put_segment.ensures.value;
+      upper_bound = rw (← e) c.put_segment.ensures.upper_bound;
+      out_after = rw (← e) c.put_segment.ensures.out_after;
+    }
+
+pub returns-then-i-answer-2 : goal.returns-then-i-answer-2
+returns-then-i-answer-2 c =
+    let a = c.args in
+    let e = at_last a.answer (vertices_of a.vertices.now) a.flags.now a.origins.now a.i c.if-i-answer.false c.if-i-answer-2.true c.vertex_at-v.ensures in
+    let p = c.put_last.ensures in
+    let both = rw (← e) (p.value, (omega arith, p.out_after)) in
+    record {
+      value = both.0;
+      upper_bound = both.1.0;
+      out_after = both.1.1;
+    }
+
+pub returns : goal.returns
+returns c =
+    let a = c.args in
+    let e = at_none a.answer (vertices_of a.vertices.now) a.flags.now a.origins.now a.i c.if-i-answer.false c.if-i-answer-2.false in
+    let both = rw (← e) (omega arith, (omega arith, refl)) in
+    record {
+      value = both.0;
+      upper_bound = both.1.0;
+      out_after = both.1.1;
+    }

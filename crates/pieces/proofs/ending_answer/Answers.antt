@@ -1,0 +1,11 @@
+-- `pieces::ending_answer` meets its contract. Assumes nothing.
+use borrow.Author.Rules.{rules}
+use native.Mathlib.Omega.{arith}
+use Rattle.moves.proofs.Laws.{byte_small, byte_bit}
+use Rattle.pieces.proofs.ending_answer.Goals as goal
+
+pub overflow_add-result : goal.overflow_add-result
+overflow_add-result c = omega (arith, c.requires.0, byte_small c.args.ending.ends)
+
+pub returns : goal.returns
+returns c = rw byte_bit

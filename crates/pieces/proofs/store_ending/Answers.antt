@@ -1,0 +1,28 @@
+-- `pieces::store_ending` meets its contract. Assumes nothing.
+use borrow.Author.Rules.{rules}
+use native.Mathlib.Omega.{arith}
+use Rattle.sheet.proofs.Storing.{drawn-few, room_fewer}
+use Rattle.pieces.proofs.Last.{few-places, last-place, unended, with-last}
+use Rattle.pieces.proofs.store_ending.Goals as goal
+
+pub store_stroke-places-requires : goal.store_stroke-places-requires
+store_stroke-places-requires c = let pre = c.requires in (room_fewer (omega (arith, drawn-few 0 c.args.ending.span)) pre.1, pre.2)
+
+pub put_last-requires : goal.put_last-requires
+put_last-requires c =
+    let a = c.args in
+    last-place a.ending a.first c.store_stroke-places.result _ _ _ _ _ _ _ _ c.requires.0 c.requires.1 c.store_stroke-places.ensures c.store_stroke-places.auto.0
+
+pub returns-then-ending : goal.returns-then-ending
+returns-then-ending c =
+    let a = c.args in
+    let all = with-last a.ending a.first c.store_stroke-places.result _ _ _ _ _ _ _ _ c.requires.0 c.requires.1 c.store_stroke-places.ensures _ c.if-ending.true c.put_last.ensures in
+    let few = few-places a.ending a.first c.store_stroke-places.result _ _ _ _ _ _ _ _ c.requires.0 c.requires.1 c.store_stroke-places.ensures in
+    (all.0, all.1, few.0, few.1)
+
+pub returns-else-ending : goal.returns-else-ending
+returns-else-ending c =
+    let a = c.args in
+    let all = unended a.ending a.first c.store_stroke-places.result _ _ _ _ _ _ _ _ c.requires.0 c.requires.1 c.store_stroke-places.ensures c.if-ending.false in
+    let few = few-places a.ending a.first c.store_stroke-places.result _ _ _ _ _ _ _ _ c.requires.0 c.requires.1 c.store_stroke-places.ensures in
+    (all.0, all.1, few.0, few.1)

@@ -1,0 +1,45 @@
+-- `pieces::take_vertices` meets its contract. Assumes nothing.
+use mathlib.Core.Path.{◌≡◌, refl, ◌∙◌}
+use Prim.Native.Nat.{◌-◌}
+use native.Mathlib.Omega.{arith}
+use lib.ListN.{length}
+use Rattle.source.specs.Source.{vertices_of}
+use Rattle.pieces.specs.InnerSteps.{rows_held, went, went_all}
+use Rattle.pieces.proofs.Went.{Going, going_none, going_one, going_done, ready-one}
+use Rattle.pieces.proofs.take_vertices.Goals as goal
+
+pub loop-k-init : goal.loop-k-init
+loop-k-init c = (refl, refl, refl, refl, going_none c.requires.1)
+
+pub vertex_at-c-requires : goal.vertex_at-c-requires
+vertex_at-c-requires c = omega (arith, c.loop-k-test.true, c.requires.0)
+
+pub take_vertex-taken-requires : goal.take_vertex-taken-requires
+take_vertex-taken-requires c = ready-one c.loop-k.invariant.4.ready (omega (arith, c.loop-k-test.true))
+
+pub overflow_step-k : goal.overflow_step-k
+overflow_step-k c = omega (arith, c.loop-k-test.true, c.ranges)
+
+pub loop-k-smaller : goal.loop-k-smaller
+loop-k-smaller c = omega (arith, c.loop-k-test.true)
+
+pub loop-k-preserved : goal.loop-k-preserved
+loop-k-preserved c =
+    let inv = c.loop-k.invariant in
+    let t = c.take_vertex-taken in
+    (t.auto.0 ∙ inv.0, t.auto.1.0 ∙ inv.1, t.auto.1.1.0 ∙ inv.2, t.auto.1.1.1.0 ∙ inv.3, going_one inv.4 _ c.requires.0 c.loop-k-test.true c.vertex_at-c.ensures t.ensures)
+
+pub shape_of-vertices : goal.shape_of-vertices
+shape_of-vertices c = c.loop-k.invariant.0
+
+pub shape_of-flags : goal.shape_of-flags
+shape_of-flags c = c.loop-k.invariant.1
+
+pub shape_of-indexes : goal.shape_of-indexes
+shape_of-indexes c = c.loop-k.invariant.2
+
+pub shape_of-origins : goal.shape_of-origins
+shape_of-origins c = c.loop-k.invariant.3
+
+pub returns : goal.returns
+returns c = going_done c.loop-k.invariant.4 c.requires.0 c.loop-k-test.false

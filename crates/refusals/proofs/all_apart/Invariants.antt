@@ -1,0 +1,20 @@
+-- `all_apart` meets its contract. Assumes nothing.
+use mathlib.Core.Path.{◌≡◌, ap, sym, ◌∙◌}
+use mathlib.Core.Bool.{true, false}
+use Prim.Native.Nat.{ℕ, ◌+◌, ◌≤◌, ◌-◌}
+use native.Mathlib.Omega.{arith}
+use Rattle.floats.proofs.Choice.{both_pass}
+use Rattle.segments.specs.declared.PlineVertex.{PlineVertex}
+use Rattle.refusals.specs.Limits.{repeats}
+use Rattle.source.specs.Source.{vertices_in}
+use Rattle.source.specs.InnerSteps.{lent_by, vertex_of}
+use Rattle.refusals.specs.InnerSteps.{ApartBefore}
+use Rattle.refusals.proofs.First.{before_more}
+use Rattle.refusals.proofs.Bad.{not_fails}
+use Rattle.refusals.proofs.all_apart.Given as goal
+
+abbrev pub invariant-loop-k : goal.invariant-loop-k
+invariant-loop-k l = (l.k ≤ l.n) × (l.all ≡ true → ApartBefore (vertices_in (lent_by l.columns l.xs l.ys l.bulges)) l.k)
+
+abbrev pub decreases-loop-k : goal.decreases-loop-k
+decreases-loop-k l = l.n - l.k

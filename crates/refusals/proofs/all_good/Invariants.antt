@@ -1,0 +1,18 @@
+-- `all_good` meets its contract. Assumes nothing.
+use mathlib.Core.Path.{◌≡◌, ap, sym, ◌∙◌}
+use mathlib.Core.Bool.{true}
+use Prim.Native.Nat.{ℕ, ◌≤◌, ◌-◌}
+use native.Mathlib.Omega.{arith}
+use Rattle.floats.proofs.Choice.{both_pass}
+use Rattle.refusals.specs.Limits.{good_vertex}
+use Rattle.source.specs.Source.{vertices_in}
+use Rattle.source.specs.InnerSteps.{lent_by, vertex_of}
+use Rattle.refusals.specs.InnerSteps.{GoodBefore}
+use Rattle.refusals.proofs.First.{before_more}
+use Rattle.refusals.proofs.all_good.Given as goal
+
+abbrev pub invariant-loop-k : goal.invariant-loop-k
+invariant-loop-k l = (l.k ≤ l.v) × (l.all ≡ true → GoodBefore (vertices_in (lent_by l.columns l.xs l.ys l.bulges)) l.k)
+
+abbrev pub decreases-loop-k : goal.decreases-loop-k
+decreases-loop-k l = l.v - l.k

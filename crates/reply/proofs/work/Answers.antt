@@ -1,0 +1,26 @@
+-- `work` meets its contract. Assumes nothing.
+use borrow.Author.Rules.{rules}
+use Rattle.reply.proofs.Texts.{few-printed, done-text, refusal-text}
+use Rattle.reply.proofs.work.Goals as goal
+
+pub put_done-requires : goal.put_done-requires
+put_done-requires c =
+    few-printed _ _ _ c.create_raw_offset-answer.ensures c.requires c.result.ensures
+
+pub returns-then-number-eq0 : goal.returns-then-number-eq0
+returns-then-number-eq0 c =
+    let answered = c.before.before.before.before.before in
+    let numbered = answered.before.before in
+    record {
+      prefix_len = rw (done-text _ _ _ numbered.before.before.before.before.before.create_raw_offset-answer.ensures _ numbered.number-number.ensures answered.if-number-eq0.true answered.result.ensures) c.put_done.ensures.prefix_len;
+      value = rw (done-text _ _ _ numbered.before.before.before.before.before.create_raw_offset-answer.ensures _ numbered.number-number.ensures answered.if-number-eq0.true answered.result.ensures) c.put_done.ensures.value;
+      text_after = rw (done-text _ _ _ numbered.before.before.before.before.before.create_raw_offset-answer.ensures _ numbered.number-number.ensures answered.if-number-eq0.true answered.result.ensures) c.put_done.ensures.text_after;
+    }
+
+pub returns : goal.returns
+returns c =
+    record {
+      prefix_len = rw (refusal-text _ _ _ c.create_raw_offset-answer.ensures _ c.number-number.ensures c.if-number-eq0.false c.place.ensures) c.put_refusal.ensures.prefix_len;
+      value = rw (refusal-text _ _ _ c.create_raw_offset-answer.ensures _ c.number-number.ensures c.if-number-eq0.false c.place.ensures) c.put_refusal.ensures.value;
+      text_after = rw (refusal-text _ _ _ c.create_raw_offset-answer.ensures _ c.number-number.ensures c.if-number-eq0.false c.place.ensures) c.put_refusal.ensures.text_after;
+    }

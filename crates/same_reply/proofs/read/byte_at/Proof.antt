@@ -1,9 +1,0 @@
--- `read::byte_at` meets its contract. Assumes nothing.
-use borrow.Author.Rules.{rules}
-use mathlib.Core.Path.{sym}
-use lib.ListN.{get_or-eq_default}
-use Rattle.same_reply.proofs.read.byte_at.Statement.{statement}
-use Rattle.same_reply.proofs.read.byte_at.Tie as tie
-
-pub byte_at_spec : {M : Type 1} → statement M
-byte_at_spec = tie.close (tie.spec (λ c. search rules) (λ c. search rules) (λ c. sym (get_or-eq_default c.before.args.bytes.now 0 c.if1.false)))

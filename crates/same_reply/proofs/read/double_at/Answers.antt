@@ -1,0 +1,8 @@
+-- `read::double_at` meets its contract. Assumes nothing.
+use borrow.Author.Rules.{rules}
+use Rattle.same_reply.specs.Read.{double_at}
+use Rattle.same_reply.proofs.read.double_at.Goals as goal
+
+pub returns : goal.returns
+unfolding double_at
+returns c = cc

@@ -1,0 +1,18 @@
+-- `put_entries` meets its contract. Assumes nothing.
+use borrow.Author.Rules.{rules}
+use mathlib.Core.Path.{◌≡◌, refl}
+use Prim.Native.Nat.{◌+◌, ◌*◌, ◌-◌, ◌≤◌}
+use native.Mathlib.Numerals.{add-one}
+use native.Mathlib.Omega.{arith}
+use lib.ListN.{length, take, get_or}
+use Rattle.packed.proofs.Writing.{Writing, place-next, writing_done, writing_none, writing_turn}
+use Rattle.same_reply.specs.Same.{entry_lines}
+use Rattle.same_reply.proofs.Entries.{line_for, entry-lines-next}
+use Rattle.same_reply.proofs.text.put_entries.Given as goal
+
+abbrev pub invariant-loop-i : goal.invariant-loop-i
+invariant-loop-i l =
+    Writing (λ k. entry_lines (take k l.numbers) (take k l.fields)) l.at l.count l.initial.out l.out l.i × ((l.end ≡ l.at + length (entry_lines (take l.i l.numbers) (take l.i l.fields))) × (l.end ≤ l.at + 42 * l.i))
+
+abbrev pub decreases-loop-i : goal.decreases-loop-i
+decreases-loop-i l = l.count - l.i

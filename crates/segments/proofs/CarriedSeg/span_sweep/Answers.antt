@@ -1,0 +1,7 @@
+-- `CarriedSeg::span_sweep` meets its contract. Assumes nothing.
+use borrow.Author.Rules.{rules}
+use mathlib.Core.Path.{refl}
+use Rattle.segments.proofs.CarriedSeg.span_sweep.Goals as goal
+
+pub returns-in-Arc : goal.returns-in-Arc
+returns-in-Arc c = rw c.in-Arc.is refl

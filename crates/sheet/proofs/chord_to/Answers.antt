@@ -1,0 +1,9 @@
+-- `sheet::chord_to` meets its contract. Assumes nothing.
+use borrow.Author.Rules.{rules}
+use mathlib.Core.Path.{ap, ◌∙◌}
+use Rattle.segments.specs.InnerSteps.{chord_of}
+use Rattle.sheet.proofs.chord_to.Goals as goal
+
+pub returns : goal.returns
+returns c =
+    c.chord_length.ensures ∙ ap (chord_of _) c.vertex_in.ensures

@@ -1,0 +1,12 @@
+-- `sheet::clear_indexes` meets its contract. Assumes nothing.
+use borrow.Author.Rules.{rules}
+use Prim.Native.Nat.{◌-◌}
+use native.Mathlib.Omega.{arith}
+use Rattle.sheet.proofs.Writing.{Clearing, writing_none, clearing_turn, clearing_done}
+use Rattle.sheet.proofs.clear_indexes.Given as goal
+
+abbrev pub invariant-loop-j : goal.invariant-loop-j
+invariant-loop-j l = Clearing 0 l.indexes.from l.indexes.count l.indexes.initial.indexes l.j l.indexes
+
+abbrev pub decreases-loop-j : goal.decreases-loop-j
+decreases-loop-j l = l.indexes.count - l.j

@@ -1,0 +1,29 @@
+-- `sheet::copy_numbers` meets its contract. Assumes nothing.
+use borrow.Author.Rules.{rules}
+use mathlib.Core.Path.{sym}
+use Prim.Native.Nat.{◌-◌}
+use native.Mathlib.Omega.{arith}
+use lib.ListN.{take}
+use lib.Seq.{length-take-le, get_or-take}
+use lib.Ieee.{nan}
+use Rattle.sheet.proofs.Writing.{Writing, writing_none, copying_turn, copying_done}
+use Rattle.sheet.proofs.copy_numbers.Goals as goal
+
+pub loop-i-init : goal.loop-i-init
+loop-i-init c = writing_none
+
+pub loop-i-preserved : goal.loop-i-preserved
+loop-i-preserved c =
+    let at-loop-test = c.before in
+    let at-loop = at-loop-test.before in
+    let start = at-loop.before in
+    let a = start.args in
+    let l = at-loop.loop-i in
+    let t = at-loop-test.loop-i-test.true in
+    rw (get_or-take a.count a.source.now l.i nan t) at (copying_turn nan l.invariant t (sym (length-take-le a.count a.source.now start.requires.0)) start.requires.1)
+
+pub returns : goal.returns
+returns c =
+    let at-loop = c.before in
+    let start = at-loop.before in
+    copying_done at-loop.loop-i.invariant c.loop-i-test.false (sym (length-take-le start.args.count start.args.source.now start.requires.0))

@@ -1,0 +1,51 @@
+-- `sheet::draw_closing` meets its contract. Assumes nothing.
+use borrow.Author.Rules.{rules}
+use mathlib.Core.Path.{◌∙◌}
+use native.Mathlib.Omega.{arith}
+use Rattle.sheet.proofs.Lent.{all_alike}
+use Rattle.sheet.proofs.Whole.{lasts-room, closing-within, closing-done}
+use Rattle.sheet.proofs.draw_closing.Goals as goal
+
+pub store_closing-places-requires : goal.store_closing-places-requires
+store_closing-places-requires c = let pre = c.requires in
+    record {
+      rooms = lasts-room pre.0;
+      closing_bound = (pre.0.outputs, pre.0.sources);
+      pointed_value = pre.1;
+    }
+
+-- after the moves there is room
+pub overflow_cast-result : goal.overflow_cast-result
+overflow_cast-result c =
+    let at-store-closing = c.before.before.before.before.before.before.before.before.before.before.before.before.before in
+    let start = at-store-closing.before.before.before.before.before.before.before.before.before.before.before.before.before in
+    let all = at-store-closing.store_closing-places in
+    let k = all.auto.1 in
+    let w = closing-within _ _ _ _ all.result start.requires.0 (all_alike _ _ _ _ _ _ _ _ _ _ _ _ _ (record { x = k.0; y = k.1.0; bulge = k.1.1.0 }) k.1.1.1.0 k.1.1.1.1.0 k.1.1.1.1.1.0) all.ensures in
+    omega (arith, w.from-flag, w.small)
+
+pub overflow_cast-result-2 : goal.overflow_cast-result-2
+overflow_cast-result-2 c =
+    let at-store-closing = c.before.before.before.before.before.before.before.before.before.before.before.before.before.before in
+    let start = at-store-closing.before.before.before.before.before.before.before.before.before.before.before.before.before in
+    let all = at-store-closing.store_closing-places in
+    let k = all.auto.1 in
+    let w = closing-within _ _ _ _ all.result start.requires.0 (all_alike _ _ _ _ _ _ _ _ _ _ _ _ _ (record { x = k.0; y = k.1.0; bulge = k.1.1.0 }) k.1.1.1.0 k.1.1.1.1.0 k.1.1.1.1.1.0) all.ensures in
+    omega (arith, w.from-index, w.small)
+
+pub finish-requires : goal.finish-requires
+finish-requires c =
+    let at-store-closing = c.before.before.before.before.before.before.before.before.before.before.before.before.before.before.before.before.before.before.before.before.before in
+    let start = at-store-closing.before.before.before.before.before.before.before.before.before.before.before.before.before in
+    let all = at-store-closing.store_closing-places in
+    let k = all.auto.1 in
+    closing-within _ _ _ _ all.result start.requires.0 (all_alike _ _ _ _ _ _ _ _ _ _ _ _ _ (record { x = k.0; y = k.1.0; bulge = k.1.1.0 }) k.1.1.1.0 k.1.1.1.1.0 k.1.1.1.1.1.0) all.ensures
+
+pub returns : goal.returns
+returns c =
+    let at-finish = c.before.before.before.before.before.before.before.before.before.before.before.before in
+    let at-store-closing = at-finish.before.before.before.before.before.before.before.before.before.before.before.before.before.before.before.before.before.before.before.before.before.before in
+    let start = at-store-closing.before.before.before.before.before.before.before.before.before.before.before.before.before in
+    let all = at-store-closing.store_closing-places in
+    let k = all.auto.1 in
+    at-finish.finish.ensures ∙ closing-done _ _ _ _ all.result start.requires.0 (all_alike _ _ _ _ _ _ _ _ _ _ _ _ _ (record { x = k.0; y = k.1.0; bulge = k.1.1.0 }) k.1.1.1.0 k.1.1.1.1.0 k.1.1.1.1.1.0) all.ensures

@@ -1,0 +1,52 @@
+-- `sheet::draw_open` meets its contract. Assumes nothing.
+use borrow.Author.Rules.{rules}
+use mathlib.Core.Path.{◌∙◌}
+use Prim.Native.Nat.{◌-◌}
+use native.Mathlib.Omega.{arith}
+use Rattle.walk.specs.Walk.{moves_a_segment}
+use Rattle.walk.proofs.Lengths.{moves-few}
+use Rattle.sheet.proofs.Lent.{all_alike}
+use Rattle.sheet.proofs.Products.{product_less}
+use Rattle.sheet.proofs.Loop.{turns-first}
+use Rattle.sheet.proofs.Whole.{first-lasts, open_built}
+use Rattle.sheet.proofs.draw_open.Goals as goal
+
+pub vertex_in-requires : goal.vertex_in-requires
+vertex_in-requires c = let r = c.requires.ready in omega (arith, r.long, r.two)
+
+pub overflow_sub-v : goal.overflow_sub-v
+overflow_sub-v c = omega (arith, c.requires.ready.two)
+
+pub store_turns-sheet-requires : goal.store_turns-sheet-requires
+store_turns-sheet-requires c =
+    let at-standing = c.before.before.before.before.before.before in
+    let start = at-standing.before.before.before.before.before.before.before.before.before.before.before in
+    let d = start.requires in
+    let r = d.ready in
+    let m = moves_a_segment start.args.settings.corners in
+    let few = product_less m (start.args.v - 1) (omega (arith, r.two)) in
+    record {
+      pointed_value = d.told;
+      starts = record { long = r.long; below = omega (arith, r.two); turns = turns-first _ 1 _ _ r at-standing.standing-first.ensures m (moves-few start.args.settings.corners) (omega arith) (omega (arith, few, d.enough)) };
+    }
+
+pub draw_last-requires : goal.draw_last-requires
+draw_last-requires c =
+    let at-store-turns = c.before.before.before.before.before.before.before.before.before.before.before.before.before.before.before.before.before.before in
+    let at-standing = at-store-turns.before.before.before.before.before.before.before in
+    let start = at-standing.before.before.before.before.before.before.before.before.before.before.before in
+    let t = at-store-turns.store_turns-sheet in
+    let k = t.auto.1.1.1.1.1.1.1.1.1.1.1 in
+    first-lasts _ _ _ _ _ _ _ at-standing.standing-first.result t.result start.requires (all_alike _ _ _ _ _ _ _ _ _ _ _ _ _ (record { x = k.0; y = k.1.0; bulge = k.1.1.0 }) k.1.1.1.0 k.1.1.1.1.0 k.1.1.1.1.1.0) at-standing.standing-first.ensures t.ensures.origins_after
+
+pub returns : goal.returns
+returns c =
+    let at-draw-last = c.before.before.before.before.before.before.before.before.before.before.before.before in
+    let at-store-turns = at-draw-last.before.before.before.before.before.before.before.before.before.before.before.before.before.before.before.before.before.before.before in
+    let at-standing = at-store-turns.before.before.before.before.before.before.before in
+    let at-vertex-in = at-standing.before in
+    let start = at-vertex-in.before.before.before.before.before.before.before.before.before.before in
+    let t = at-store-turns.store_turns-sheet in
+    let first = at-standing.standing-first.ensures in
+    at-draw-last.draw_last.ensures
+    ∙ open_built start.args.settings _ _ start.args.room start.args.pointed _ t.result start.requires (t.ensures.origins_after ∙ rw (first.0, first.2, at-vertex-in.vertex_in.ensures))

@@ -1,0 +1,7 @@
+-- `sheet::put_origin` meets its contract. Assumes nothing.
+use borrow.Author.Rules.{rules}
+use Rattle.sheet.proofs.Origins.{origin-stored}
+use Rattle.sheet.proofs.put_origin.Goals as goal
+
+pub returns : goal.returns
+returns c = origin-stored _ _ _ c.code.ensures

@@ -1,0 +1,8 @@
+-- `why::Telling::numbers` meets its contract. Assumes nothing.
+use borrow.Author.Rules.{rules}
+use Rattle.moves.proofs.Laws.{byte_bit}
+use Rattle.why.proofs.Telling.numbers.Goals as goal
+
+pub returns : goal.returns
+returns c =
+    rw (c.number-3.ensures, c.number-2.ensures, c.number.ensures, byte_bit, c.is_connector.ensures, c.source-source.ensures)

@@ -1,0 +1,28 @@
+-- `why::ask_last` meets its contract. Assumes nothing.
+use mathlib.Core.Path.{refl, sym, ap, ◌∙◌}
+use native.Mathlib.Omega.{arith}
+use Rattle.floats.proofs.Choice.{yes, no}
+use Rattle.walk.specs.InnerSteps.{last_span}
+use Rattle.why.specs.InnerSteps.{Noted, finish_open, last_answer}
+use Rattle.why.proofs.ask_last.Goals as goal
+
+pub returns-then-both : goal.returns-then-both
+unfolding last_answer
+returns-then-both c = yes _ _ _ (sym (c.both.ensures ∙ rw c.is_collapsed.ensures) ∙ c.if-both.true) refl
+
+pub step-requires : goal.step-requires
+step-requires c =
+    let e = ap (λ (n : Noted). n.pen.number.0) c.note-before.ensures in
+    omega (arith, c.requires)
+
+pub returns : goal.returns
+unfolding last_answer last_span
+returns c =
+    let step = c.before in
+    let note = step.before in
+    let whole = note.before in
+    let end = whole.before.before in
+    let else = end.before in
+    let both = else.before in
+    no _ _ _ (sym (both.both.ensures ∙ rw both.before.is_collapsed.ensures) ∙ else.if-both.false)
+    (c.finish_open.ensures ∙ ap finish_open (step.step.ensures ∙ rw (note.note-before.ensures, whole.straight-whole.ensures, whole.before.span_to-span.ensures, end.end-end.ensures)))

@@ -1,0 +1,29 @@
+-- `why::ask_open` meets its contract. Assumes nothing.
+use mathlib.Core.Path.{◌∙◌}
+use native.Mathlib.Omega.{arith}
+use Rattle.why.proofs.Whole.{turns_added, none_added, ready-first, open_whole}
+use Rattle.why.proofs.ask_open.Goals as goal
+
+pub vertex_at-requires : goal.vertex_at-requires
+vertex_at-requires c = let pre = c.requires in omega (arith, pre.long, pre.two)
+
+pub overflow_sub-v : goal.overflow_sub-v
+overflow_sub-v c = omega (arith, c.requires.two)
+
+pub ask_turns-asking-requires : goal.ask_turns-asking-requires
+ask_turns-asking-requires c =
+    let pre = c.requires in
+    record { long = pre.long; below = omega (arith, pre.two); ready = ready-first _ _ _ c.standing-first.result c.standing-first.ensures (omega (arith, pre.most)) }
+
+pub ask_last-requires : goal.ask_last-requires
+ask_last-requires c =
+    let none = none_added _ _ c.standing-first.result c.standing-first.ensures.0 in
+    let all = turns_added _ _ _ _ _ _ _ c.ask_turns-asking.result _ c.ask_turns-asking.ensures.0 in
+    omega (arith, c.requires.most, none.1, all.number)
+
+pub returns : goal.returns
+returns c =
+    let turns = c.before in
+    let standing = turns.before in
+    let pre = standing.before.before.before.requires in
+    c.ask_last.ensures ∙ rw (turns.ask_turns-asking.ensures.0, standing.standing-first.ensures.0, standing.before.vertex_at.ensures) (open_whole _ _ _ _ pre.long pre.two)

@@ -1,0 +1,18 @@
+-- `why::finish_open` meets its contract. Assumes nothing.
+use mathlib.Core.Path.{refl}
+use borrow.Author.Tests.{eq-eqb, ne_eqb}
+use Rattle.floats.proofs.Choice.{yes, no}
+use Rattle.moves.proofs.Finite.{doubt-more}
+use Rattle.why.specs.InnerSteps.{finish_open}
+use Rattle.why.proofs.finish_open.Goals as goal
+
+pub returns-then-number-eq0 : goal.returns-then-number-eq0
+unfolding finish_open
+returns-then-number-eq0 c = yes _ _ _ (eq-eqb _ _ c.if-number-eq0.true) refl
+
+pub returns : goal.returns
+unfolding finish_open
+returns c =
+    let doubt = c.before.before in
+    let vertex = doubt.before in
+    no _ _ _ (ne_eqb _ _ vertex.before.if-number-eq0.false) (rw (c.finish.ensures, doubt.doubt.ensures, doubt-more, vertex.from_vector2-last.ensures))
