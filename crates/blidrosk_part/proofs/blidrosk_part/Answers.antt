@@ -6,7 +6,4 @@ use Rattle.blidrosk_part.proofs.blidrosk_part.Goals as goal
 pub returns : goal.returns
 unfolding handed_of
 returns c =
-    let place = c.before in
-    let number = place.before in
-    let bounds = number.before.before in
-    rw (place.place.ensures, number.number-number.ensures, bounds.bounds-bounds.ensures) (ap handed_of bounds.before.find-found.ensures)
+    rw (c.place.ensures, c.number-number.ensures, c.bounds-bounds.ensures) (ap handed_of c.find-found.ensures)

@@ -5,7 +5,4 @@ use Rattle.blidrosk_why_pointed.proofs.blidrosk_why_pointed.Goals as goal
 
 pub returns : goal.returns
 returns c =
-    let told = c in
-    let numbers = told.before.before.before in
-    let asked = numbers.before in
-    told.hand.ensures ∙ rw (numbers.numbers.ensures, asked.why-told.ensures, asked.before.pointed-settings.ensures)
+    c.hand.ensures ∙ rw (c.numbers.ensures, c.why-told.ensures, c.pointed-settings.ensures)

@@ -11,34 +11,34 @@ returns-then-not-is_even c =
     let a = c.args in
     let first = output a.a.now a.a_closed a.a_flags.now in
     let second = output a.b.now a.b_closed a.b_flags.now in
-    ragged-first first second a.numbers-1.now a.fields-1.now (sym c.is_even.ensures ∙ not-true _ c.if-not-is_even.true)
+    ragged-first first second a.numbers.now a.fields.now (sym c.is_even.ensures ∙ c.if-not-is_even.true)
 
 pub returns-then-is_many : goal.returns-then-is_many
 returns-then-is_many c =
     let a = c.args in
     let first = output a.a.now a.a_closed a.a_flags.now in
     let second = output a.b.now a.b_closed a.b_flags.now in
-    let even = sym c.is_even.ensures ∙ not-false _ c.if-not-is_even.false in
-    many-first first second a.numbers-1.now a.fields-1.now even (sym c.is_many.ensures ∙ c.if-is_many.true)
+    let even = sym c.is_even.ensures ∙ c.if-not-is_even.false in
+    many-first first second a.numbers.now a.fields.now even (sym c.is_many.ensures ∙ c.if-is_many.true)
 
 pub returns-then-not-is_even-2 : goal.returns-then-not-is_even-2
 returns-then-not-is_even-2 c =
     let a = c.args in
     let first = output a.a.now a.a_closed a.a_flags.now in
     let second = output a.b.now a.b_closed a.b_flags.now in
-    let even = sym c.is_even.ensures ∙ not-false _ c.if-not-is_even.false in
+    let even = sym c.is_even.ensures ∙ c.if-not-is_even.false in
     let few = sym c.is_many.ensures ∙ c.if-is_many.false in
-    ragged-second first second a.numbers-1.now a.fields-1.now even few (sym c.is_even-2.ensures ∙ not-true _ c.if-not-is_even-2.true)
+    ragged-second first second a.numbers.now a.fields.now even few (sym c.is_even-2.ensures ∙ c.if-not-is_even-2.true)
 
 pub returns-then-is_many-2 : goal.returns-then-is_many-2
 returns-then-is_many-2 c =
     let a = c.args in
     let first = output a.a.now a.a_closed a.a_flags.now in
     let second = output a.b.now a.b_closed a.b_flags.now in
-    let even = sym c.is_even.ensures ∙ not-false _ c.if-not-is_even.false in
+    let even = sym c.is_even.ensures ∙ c.if-not-is_even.false in
     let few = sym c.is_many.ensures ∙ c.if-is_many.false in
-    let even-too = sym c.is_even-2.ensures ∙ not-false _ c.if-not-is_even-2.false in
-    many-second first second a.numbers-1.now a.fields-1.now even few even-too (sym c.is_many-2.ensures ∙ c.if-is_many-2.true)
+    let even-too = sym c.is_even-2.ensures ∙ c.if-not-is_even-2.false in
+    many-second first second a.numbers.now a.fields.now even few even-too (sym c.is_many-2.ensures ∙ c.if-is_many-2.true)
 
 pub list-requires : goal.list-requires
 list-requires c =
@@ -49,7 +49,7 @@ returns c =
     let a = c.args in
     let first = output a.a.now a.a_closed a.a_flags.now in
     let second = output a.b.now a.b_closed a.b_flags.now in
-    let even = sym c.is_even.ensures ∙ not-false _ c.if-not-is_even.false in
+    let even = sym c.is_even.ensures ∙ c.if-not-is_even.false in
     let few = sym c.is_many.ensures ∙ c.if-is_many.false in
-    let even-too = sym c.is_even-2.ensures ∙ not-false _ c.if-not-is_even-2.false in
-    both-good first second a.numbers-1.now a.fields-1.now even few even-too (sym c.is_many-2.ensures ∙ c.if-is_many-2.false) c.list.ensures
+    let even-too = sym c.is_even-2.ensures ∙ c.if-not-is_even-2.false in
+    both-good first second a.numbers.now a.fields.now even few even-too (sym c.is_many-2.ensures ∙ c.if-is_many-2.false) c.list.ensures

@@ -24,15 +24,15 @@ returns-then-not-has_room c =
     let a = c.args in
     let first = output a.a.now a.a_closed a.a_flags.now in
     let second = output a.b.now a.b_closed a.b_flags.now in
-    no_room first second a.numbers-1.now a.fields-1.now (c.count_entries-count.ensures.value ∙ ap length (list-is first second c.shared-most.ensures.value))
-    (sym c.has_room.ensures ∙ not-true _ c.if-not-has_room.true)
+    no_room first second a.numbers.now a.fields.now (c.count_entries-count.ensures.value ∙ ap length (list-is first second c.shared-most.ensures.value))
+    (sym c.has_room.ensures ∙ c.if-not-has_room.true)
 
 pub put_entries-requires : goal.put_entries-requires
 put_entries-requires c =
     let a = c.args in
     let v = length-vertices a.a.now in
     let w = length-vertices a.b.now in
-    let room = fits _ _ _ (sym c.has_room.ensures ∙ not-false _ c.if-not-has_room.false) in
+    let room = fits _ _ _ (sym c.has_room.ensures ∙ c.if-not-has_room.false) in
     let n = c.count_entries-count.ensures.value in
     record {
       most_in_bounds = (omega arith, omega arith, omega arith);
@@ -60,6 +60,6 @@ returns c =
     let second = output a.b.now a.b_closed a.b_flags.now in
     let most = c.shared-most in
     let put = c.put_entries in
-    listed first second a.numbers-1.now a.fields-1.now (entries_to (vertices_of a.a.now) a.a_flags.now (vertices_of a.b.now) a.b_flags.now most.result)
-    (list-is first second most.ensures.value) c.count_entries-count.ensures.value (sym c.has_room.ensures ∙ not-false _ c.if-not-has_room.false)
+    listed first second a.numbers.now a.fields.now (entries_to (vertices_of a.a.now) a.a_flags.now (vertices_of a.b.now) a.b_flags.now most.result)
+    (list-is first second most.ensures.value) c.count_entries-count.ensures.value (sym c.has_room.ensures ∙ c.if-not-has_room.false)
     c.unmatched.ensures.value c.marks_differ.ensures put.ensures.numbers_after put.ensures.fields_after

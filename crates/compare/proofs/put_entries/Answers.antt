@@ -40,11 +40,11 @@ loop-k-preserved c =
     let m = entries_mono (vertices_of a.a.now) a.a_flags.now (vertices_of a.b.now) a.b_flags.now (l.k + 1) a.most (omega arith) in
     let one = ap (λ (f : Fields). length (entries_for l.k f)) is in
     let entry = entries_for l.k (fields_at (vertices_of a.a.now) a.a_flags.now (vertices_of a.b.now) a.b_flags.now l.k) in
-    let numbers = put.ensures.numbers_after ∙ ap (λ (f : Fields). sets l.numbers-1 l.at (map number_in (entries_for l.k f))) is in
-    let fields = put.ensures.fields_after ∙ ap (λ (f : Fields). sets l.fields-1 l.at (map code_in (entries_for l.k f))) is in
-    let next-numbers = list-next number_in (vertices_of a.a.now) a.a_flags.now (vertices_of a.b.now) a.b_flags.now l.k a.numbers-1.now l.invariant.1.0.0 l.invariant.0.1 (omega arith) numbers in
-    let next-fields = list-next code_in (vertices_of a.a.now) a.a_flags.now (vertices_of a.b.now) a.b_flags.now l.k a.fields-1.now l.invariant.1.1.0 l.invariant.0.1 (omega arith) fields in
-    ((omega arith, omega arith), ((next-numbers, ap length numbers ∙ length-sets l.numbers-1 l.at (map number_in entry) ∙ l.invariant.1.0.1), (next-fields, ap length fields ∙ length-sets l.fields-1 l.at (map code_in entry) ∙ l.invariant.1.1.1)))
+    let numbers = put.ensures.numbers_after ∙ ap (λ (f : Fields). sets l.numbers l.at (map number_in (entries_for l.k f))) is in
+    let fields = put.ensures.fields_after ∙ ap (λ (f : Fields). sets l.fields l.at (map code_in (entries_for l.k f))) is in
+    let next-numbers = list-next number_in (vertices_of a.a.now) a.a_flags.now (vertices_of a.b.now) a.b_flags.now l.k a.numbers.now l.invariant.1.0.0 l.invariant.0.1 (omega arith) numbers in
+    let next-fields = list-next code_in (vertices_of a.a.now) a.a_flags.now (vertices_of a.b.now) a.b_flags.now l.k a.fields.now l.invariant.1.1.0 l.invariant.0.1 (omega arith) fields in
+    ((omega arith, omega arith), ((next-numbers, ap length numbers ∙ length-sets l.numbers l.at (map number_in entry) ∙ l.invariant.1.0.1), (next-fields, ap length fields ∙ length-sets l.fields l.at (map code_in entry) ∙ l.invariant.1.1.1)))
 
 pub shape_of-numbers : goal.shape_of-numbers
 shape_of-numbers c = c.loop-k.invariant.1.0.1

@@ -10,6 +10,4 @@ offset_drawing-requires c = sym (ap (λ (σ : Settings). are_pointed σ.corners)
 
 pub returns : goal.returns
 returns c =
-    let at-offset-drawing = c.before.before.before.before.before.before.before.before.before.before.before.before in
-    let at-round = at-offset-drawing.before.before.before.before.before.before.before in
-    at-offset-drawing.offset_drawing.ensures ∙ rw at-round.round.ensures
+    c.offset_drawing.ensures ∙ rw c.round.ensures

@@ -14,9 +14,7 @@ first_repeated-repeated-requires c = let r = c.requires.ready in
 
 pub returns-in-At : goal.returns-in-At
 returns-in-At c =
-    let at-repeated = c.before in
-    let at-first-repeated = at-repeated.before.before in
-    repeated-ends _ _ _ _ _ _ (sym at-first-repeated.first_repeated-repeated.ensures ∙ at-repeated.in-At.is)
+    repeated-ends _ _ _ _ _ _ (sym c.first_repeated-repeated.ensures ∙ c.in-At.is)
 
 pub draw-built-requires : goal.draw-built-requires
 draw-built-requires c =
@@ -24,19 +22,10 @@ draw-built-requires c =
 
 pub returns-in-Done : goal.returns-in-Done
 returns-in-Done c =
-    let at-built = c.before in
-    let at-draw = at-built.before.before.before.before.before.before.before.before.before.before.before.before.before.before in
-    let at-enum-told = at-draw.before.before.before.before.before.before.before in
-    let at-first-repeated = at-enum-told.before.before in
-    let start = at-first-repeated.before.before.before.before.before.before.before.before.before.before in
-    let nowhere = sym at-first-repeated.first_repeated-repeated.ensures ∙ at-enum-told.in_default.is in
-    rw at-built.in-Done.is at (drawn-ends _ _ _ _ _ _ _ _ _ _ _ _ _ _ start.requires.ready.vertices _ _ _ nowhere at-draw.draw-built.ensures)
+    let nowhere = sym c.first_repeated-repeated.ensures ∙ c.in_default.is in
+    rw c.in-Done.is at (drawn-ends _ _ _ _ _ _ _ _ _ _ _ _ _ _ c.requires.ready.vertices _ _ _ nowhere c.draw-built.ensures)
 
 pub returns-in-NotFinite : goal.returns-in-NotFinite
 returns-in-NotFinite c =
-    let at-draw = c.before.before.before.before.before.before.before.before.before.before.before.before.before.before in
-    let at-enum-told = at-draw.before.before.before.before.before.before.before in
-    let at-first-repeated = at-enum-told.before.before in
-    let start = at-first-repeated.before.before.before.before.before.before.before.before.before.before in
-    let nowhere = sym at-first-repeated.first_repeated-repeated.ensures ∙ at-enum-told.in_default.is in
-    rw c.in-NotFinite.is at (drawn-ends _ _ _ _ _ _ _ _ _ _ _ _ _ _ start.requires.ready.vertices _ _ _ nowhere at-draw.draw-built.ensures)
+    let nowhere = sym c.first_repeated-repeated.ensures ∙ c.in_default.is in
+    rw c.in-NotFinite.is at (drawn-ends _ _ _ _ _ _ _ _ _ _ _ _ _ _ c.requires.ready.vertices _ _ _ nowhere c.draw-built.ensures)

@@ -44,14 +44,9 @@ analyze_join-joined-requires c = (c.anew-current.ensures.marked, c.anew-next.ens
 
 pub returns : goal.returns
 returns c =
-    let joined = c.before.before.before in
-    let next = joined.before.before in
-    let seen = next.before.before.before in
-    let current = seen.before.before.before in
-    let settings = current.before.before.before.before.before in
-    let a = settings.before.args in
+    let a = c.args in
     c.listed_join.ensures
     ∙ ap join_listed
-    (joined.analyze_join-joined.ensures.boundary-1
-    ∙ joined-four _ (round_by a.offset a.eps) settings.round-settings.ensures (seen.seen_before-seen.ensures ∙ current.anew-current.ensures.full) next.anew-next.ensures.full joined.pos.ensures
-    current.before.before.before.vertex_at-b.ensures current.before.vertex_at-c.ensures next.before.vertex_at-2.ensures)
+    (c.analyze_join-joined.ensures.boundary
+    ∙ joined-four _ (round_by a.offset a.eps) c.round-settings.ensures (c.seen_before-seen.ensures ∙ c.anew-current.ensures.full) c.anew-next.ensures.full c.pos.ensures
+    c.vertex_at-b.ensures c.vertex_at-c.ensures c.vertex_at-2.ensures)

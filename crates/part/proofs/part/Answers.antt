@@ -17,7 +17,7 @@ unfolding flags_in stand_in
 returns c =
     let flags = c.args.flags in
     let is = c.bounds-bounds.ensures ∙ ap bounds_of c.find-answer.ensures in
-    let count : end_of c.bounds-bounds.result-1 - c.bounds-bounds.result-1.start.0 ≡ c.bounds-bounds.result-1.count = omega arith in
+    let count : end_of c.bounds-bounds.result - c.bounds-bounds.result.start.0 ≡ c.bounds-bounds.result.count = omega arith in
     record {
       result_value = rw count (ap (λ (part : Bounds). flags_in part flags.now) is);
       ref_ptr_value = ap (λ (part : Bounds). stand_in part flags.ref_ptr) is;

@@ -18,7 +18,7 @@ returns-then-not-is_naming c =
     let at = c.loop-i.i in
     let l = looked_length c.args.origins.now c.args.most c.requires.1 in
     let is = ap (naming c.args.named c.args.source.0) (looked_at c.args.origins.now c.args.most at c.loop-i-test.true)
-    ∙ sym c.is_naming.ensures ∙ not-true _ c.if-not-is_naming.true in
+    ∙ sym c.is_naming.ensures ∙ c.if-not-is_naming.true in
     record {
       value = stops _ _ _ at (origin_of 0) (omega arith) is ∙ c.loop-i.invariant.1;
       upper_bound = omega arith;
@@ -29,7 +29,7 @@ loop-i-preserved c =
     let at = c.loop-i.i in
     let l = looked_length c.args.origins.now c.args.most c.requires.1 in
     let is = ap (naming c.args.named c.args.source.0) (looked_at c.args.origins.now c.args.most at c.loop-i-test.true)
-    ∙ sym c.is_naming.ensures ∙ not-false _ c.if-not-is_naming.false in
+    ∙ sym c.is_naming.ensures ∙ c.if-not-is_naming.false in
     (omega arith, passes _ _ _ at (origin_of 0) (omega arith) is ∙ c.loop-i.invariant.1)
 
 pub returns : goal.returns

@@ -11,5 +11,5 @@ returns c =
     record {
       value = omega arith;
       upper_bound = omega arith;
-      out_after = last a.v a.out-1.now a.at c.mark_of.ensures c.put_line.ensures;
+      out_after = last a.v a.out.now a.at c.mark_of.ensures c.put_line.ensures;
     }

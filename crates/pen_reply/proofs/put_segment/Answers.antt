@@ -8,7 +8,7 @@ pub returns : goal.returns
 returns c =
     let a = c.args in
     let o = c.put_origin in
-    let h = segment a.v a.flag a.origin a.out-1.now a.at c.mark_of-mark.ensures c.put_line.ensures o.ensures.out_after o.ensures.value in
+    let h = segment a.v a.flag a.origin a.out.now a.at c.mark_of-mark.ensures c.put_line.ensures o.ensures.out_after o.ensures.value in
     record {
       value = h.0;
       upper_bound = omega arith;

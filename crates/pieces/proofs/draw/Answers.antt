@@ -28,31 +28,31 @@ overflow_mul-room c =
 
 pub returns-then-not-has_room : goal.returns-then-not-has_room
 returns-then-not-has_room c =
-    let same = same-room c.args.job c.args.source.now c.args.vertices_1.now c.args.flags_1.now c.args.indexes_1.now c.args.origins_1.now c.is_pointed-pointed.ensures c.moves_a_segment.ensures c.has_room.ensures in
+    let same = same-room c.args.job c.args.source.now c.args.vertices.now c.args.flags.now c.args.indexes.now c.args.origins.now c.is_pointed-pointed.ensures c.moves_a_segment.ensures c.has_room.ensures in
     draw_roomless _ _ _ (ap not (sym c.is_open.ensures) ∙ c.if-not-is_open.false) (ap not (sym c.is_whole.ensures) ∙ c.if-not-is_whole.false) (sym same ∙ c.if-not-has_room.true) c.unchanged-then-not-has_room.ensures.0 c.unchanged-then-not-has_room.ensures.1
 
 pub take_vertices-taken-requires : goal.take_vertices-taken-requires
 take_vertices-taken-requires c =
-    let facts = open_facts _ (sym c.is_open.ensures ∙ not-false _ c.if-not-is_open.false) in
+    let facts = open_facts _ (sym c.is_open.ensures ∙ c.if-not-is_open.false) in
     let told = c.settings-settings.ensures in (
       count-rows _,
       rw (c.none-first.ensures, told) (record {
         taken = facts.true;
         number = facts.number;
         told = c.is_pointed-pointed.ensures;
-        rooms = room_rules c.args.job c.args.source.now c.args.vertices_1.now c.args.flags_1.now c.args.indexes_1.now c.args.origins_1.now c.is_pointed-pointed.ensures c.moves_a_segment.ensures c.has_room.ensures c.if-not-has_room.false;
+        rooms = room_rules c.args.job c.args.source.now c.args.vertices.now c.args.flags.now c.args.indexes.now c.args.origins.now c.is_pointed-pointed.ensures c.moves_a_segment.ensures c.has_room.ensures c.if-not-has_room.false;
       }),
     )
 
 pub after-requires : goal.after-requires
 after-requires c =
-    let facts = open_facts _ (sym c.is_open.ensures ∙ not-false _ c.if-not-is_open.false) in
-    let rooms = room_rules c.args.job c.args.source.now c.args.vertices_1.now c.args.flags_1.now c.args.indexes_1.now c.args.origins_1.now c.is_pointed-pointed.ensures c.moves_a_segment.ensures c.has_room.ensures c.if-not-has_room.false in
+    let facts = open_facts _ (sym c.is_open.ensures ∙ c.if-not-is_open.false) in
+    let rooms = room_rules c.args.job c.args.source.now c.args.vertices.now c.args.flags.now c.args.indexes.now c.args.origins.now c.is_pointed-pointed.ensures c.moves_a_segment.ensures c.has_room.ensures c.if-not-has_room.false in
     few-counts _ c.args.job _ _ c.take_vertices-taken.result _ _ _ _ _ _ _ _ (rw (← count-rows c.args.source.now) rooms) c.settings-settings.ensures c.none-first.ensures c.take_vertices-taken.ensures facts.true
 
 pub returns : goal.returns
 returns c =
-    let rooms = room_rules c.args.job c.args.source.now c.args.vertices_1.now c.args.flags_1.now c.args.indexes_1.now c.args.origins_1.now c.is_pointed-pointed.ensures c.moves_a_segment.ensures c.has_room.ensures c.if-not-has_room.false in
-    let same = same-room c.args.job c.args.source.now c.args.vertices_1.now c.args.flags_1.now c.args.indexes_1.now c.args.origins_1.now c.is_pointed-pointed.ensures c.moves_a_segment.ensures c.has_room.ensures in
+    let rooms = room_rules c.args.job c.args.source.now c.args.vertices.now c.args.flags.now c.args.indexes.now c.args.origins.now c.is_pointed-pointed.ensures c.moves_a_segment.ensures c.has_room.ensures c.if-not-has_room.false in
+    let same = same-room c.args.job c.args.source.now c.args.vertices.now c.args.flags.now c.args.indexes.now c.args.origins.now c.is_pointed-pointed.ensures c.moves_a_segment.ensures c.has_room.ensures in
     draw-goes _ _ _ (ap not (sym c.is_open.ensures) ∙ c.if-not-is_open.false) (ap not (sym c.is_whole.ensures) ∙ c.if-not-is_whole.false) (sym same ∙ c.if-not-has_room.false)
     (drawn-called _ c.args.job _ _ c.take_vertices-taken.result _ _ _ _ _ _ _ _ (rw (← count-rows c.args.source.now) rooms) c.settings-settings.ensures c.none-first.ensures c.take_vertices-taken.ensures c.after.ensures.0 c.after.ensures.1)

@@ -16,25 +16,25 @@ returns-then-not-is_open c = end-shut _ _ (ap not (sym c.is_open.ensures) ∙ c.
 
 pub returns-then-not-has_room : goal.returns-then-not-has_room
 returns-then-not-has_room c =
-    end_roomless _ _ (ap not (sym c.is_open.ensures) ∙ c.if-not-is_open.false) (ap not (sym (c.has_room.ensures ∙ room_tested 2 c.args.vertices_1.now c.args.flags_1.now c.args.indexes_1.now c.args.origins_1.now)) ∙ c.if-not-has_room.true) c.unchanged.ensures.0 c.unchanged.ensures.1
+    end_roomless _ _ (ap not (sym c.is_open.ensures) ∙ c.if-not-is_open.false) (ap not (sym (c.has_room.ensures ∙ room_tested 2 c.args.vertices.now c.args.flags.now c.args.indexes.now c.args.origins.now)) ∙ c.if-not-has_room.true) c.unchanged.ensures.0 c.unchanged.ensures.1
 
 pub end-ending-requires : goal.end-ending-requires
 end-ending-requires c =
-    let facts = open_facts _ (sym c.is_open.ensures ∙ not-false _ c.if-not-is_open.false) in
-    (facts.true, omega (arith, facts.true, facts.number-number))
+    let facts = open_facts _ (sym c.is_open.ensures ∙ c.if-not-is_open.false) in
+    (facts.true, omega (arith, facts.true, facts.number))
 
 pub returns-then-is_endless_end : goal.returns-then-is_endless_end
 returns-then-is_endless_end c =
     let j = c.args.job in
     let n = c.number-number.ensures in
-    let e = n ∙ endless _ _ c.end-ending.ensures.0 c.is_endless_end.ensures c.if-is_endless_end.true ∙ ap (λ (σ : Settings). end_refusal σ j.course-1) c.settings-settings.ensures in
-    end-endless _ _ (ap not (sym c.is_open.ensures) ∙ c.if-not-is_open.false) (ap not (sym (c.has_room.ensures ∙ room_tested 2 c.args.vertices_1.now c.args.flags_1.now c.args.indexes_1.now c.args.origins_1.now)) ∙ c.if-not-has_room.false) e (λ z. omega (arith, n))
+    let e = n ∙ endless _ _ c.end-ending.ensures.0 c.is_endless_end.ensures c.if-is_endless_end.true ∙ ap (λ (σ : Settings). end_refusal σ j.course) c.settings-settings.ensures in
+    end-endless _ _ (ap not (sym c.is_open.ensures) ∙ c.if-not-is_open.false) (ap not (sym (c.has_room.ensures ∙ room_tested 2 c.args.vertices.now c.args.flags.now c.args.indexes.now c.args.origins.now)) ∙ c.if-not-has_room.false) e (λ z. omega (arith, n))
     (rw (c.none.ensures, c.staged.ensures))
 
 pub store_ending-places-requires : goal.store_ending-places-requires
 store_ending-places-requires c =
     let none = ap (λ (t : Taken). t.places) c.none-2.ensures in
-    (none, rw none (room_had 2 c.args.vertices_1.now c.args.flags_1.now c.args.indexes_1.now c.args.origins_1.now (sym c.has_room.ensures ∙ not-false _ c.if-not-has_room.false)), c.end-ending.ensures.1)
+    (none, rw none (room_had 2 c.args.vertices.now c.args.flags.now c.args.indexes.now c.args.origins.now (sym c.has_room.ensures ∙ c.if-not-has_room.false)), c.end-ending.ensures.1)
 
 pub ending_answer-requires : goal.ending_answer-requires
 ending_answer-requires c = let e = c.store_ending-places.ensures in (e.2, e.3)
@@ -43,7 +43,7 @@ pub returns : goal.returns
 returns c =
     let j = c.args.job in
     let e = c.store_ending-places.ensures in
-    let room = room_had 2 c.args.vertices_1.now c.args.flags_1.now c.args.indexes_1.now c.args.origins_1.now (sym c.has_room.ensures ∙ not-false _ c.if-not-has_room.false) in
-    let z = ap (λ (σ : Settings). end_refusal σ j.course-1) (sym c.settings-settings.ensures) ∙ end-finite _ _ c.end-ending.ensures.0 c.is_endless_end.ensures c.if-is_endless_end.false in
-    end_goes _ _ (ap not (sym c.is_open.ensures) ∙ c.if-not-is_open.false) (ap not (sym (c.has_room.ensures ∙ room_tested 2 c.args.vertices_1.now c.args.flags_1.now c.args.indexes_1.now c.args.origins_1.now)) ∙ c.if-not-has_room.false) z
+    let room = room_had 2 c.args.vertices.now c.args.flags.now c.args.indexes.now c.args.origins.now (sym c.has_room.ensures ∙ c.if-not-has_room.false) in
+    let z = ap (λ (σ : Settings). end_refusal σ j.course) (sym c.settings-settings.ensures) ∙ end-finite _ _ c.end-ending.ensures.0 c.is_endless_end.ensures c.if-is_endless_end.false in
+    end_goes _ _ (ap not (sym c.is_open.ensures) ∙ c.if-not-is_open.false) (ap not (sym (c.has_room.ensures ∙ room_tested 2 c.args.vertices.now c.args.flags.now c.args.indexes.now c.args.origins.now)) ∙ c.if-not-has_room.false) z
     (ended-called j c.end-ending.result c.store_ending-places.result _ _ _ _ _ _ _ _ c.settings-settings.ensures c.end-ending.ensures.0 e.0 e.1 e.2 room c.ending_answer.ensures c.staged-2.ensures)

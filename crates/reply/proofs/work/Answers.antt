@@ -9,12 +9,10 @@ put_done-requires c =
 
 pub returns-then-number-eq0 : goal.returns-then-number-eq0
 returns-then-number-eq0 c =
-    let answered = c.before.before.before.before.before in
-    let numbered = answered.before.before in
     record {
-      prefix_len = rw (done-text _ _ _ numbered.before.before.before.before.before.create_raw_offset-answer.ensures _ numbered.number-number.ensures answered.if-number-eq0.true answered.result.ensures) c.put_done.ensures.prefix_len;
-      value = rw (done-text _ _ _ numbered.before.before.before.before.before.create_raw_offset-answer.ensures _ numbered.number-number.ensures answered.if-number-eq0.true answered.result.ensures) c.put_done.ensures.value;
-      text_after = rw (done-text _ _ _ numbered.before.before.before.before.before.create_raw_offset-answer.ensures _ numbered.number-number.ensures answered.if-number-eq0.true answered.result.ensures) c.put_done.ensures.text_after;
+      prefix_len = rw (done-text _ _ _ c.create_raw_offset-answer.ensures _ c.number-number.ensures c.if-number-eq0.true c.result.ensures) c.put_done.ensures.prefix_len;
+      value = rw (done-text _ _ _ c.create_raw_offset-answer.ensures _ c.number-number.ensures c.if-number-eq0.true c.result.ensures) c.put_done.ensures.value;
+      text_after = rw (done-text _ _ _ c.create_raw_offset-answer.ensures _ c.number-number.ensures c.if-number-eq0.true c.result.ensures) c.put_done.ensures.text_after;
     }
 
 pub returns : goal.returns

@@ -8,4 +8,4 @@ use Rattle.sheet.proofs.clear_origins.Goals as goal
 pub returns : goal.returns
 returns c =
     let a = c.args in
-    ap origins_in c.clear_indexes.ensures ∙ origins-cleared a.from a.count a.origins-1.now
+    ap origins_in c.clear_indexes.ensures ∙ origins-cleared a.from a.count a.origins.now

@@ -12,28 +12,19 @@ loop-j-init c = (writing_none, refl, long_same, refl)
 
 pub overflow_add-from : goal.overflow_add-from
 overflow_add-from c =
-    let at-loop-test = c.before.before.before in
-    let start = at-loop-test.before.before.before.before.before in
-    let a = start.args in
-    omega (arith, start.requires, held-most a.columns a.outxs-1.now a.outys-1.now a.outbulges-1.now, start.well_formed.1.0, at-loop-test.loop-j-test.true)
+    let a = c.args in
+    omega (arith, c.requires, held-most a.columns a.outxs.now a.outys.now a.outbulges.now, c.well_formed.1.0, c.loop-j-test.true)
 
 pub put_vertex-requires : goal.put_vertex-requires
 put_vertex-requires c =
-    let at-loop-test = c.before.before.before in
-    let at-loop = at-loop-test.before in
-    let start = at-loop.before.before.before.before in
-    omega (arith, at-loop.loop-j.invariant.0.long, start.requires, at-loop-test.loop-j-test.true)
+    omega (arith, c.loop-j.invariant.0.long, c.requires, c.loop-j-test.true)
 
 pub loop-j-preserved : goal.loop-j-preserved
 loop-j-preserved c =
-    let at-put-vertex = c.before.before.before.before.before.before in
-    let at-loop-test = at-put-vertex.before.before.before.before in
-    let at-loop = at-loop-test.before in
-    let start = at-loop.before.before.before.before in
-    let l = at-loop.loop-j.invariant in
-    let p = at-put-vertex.put_vertex in
+    let l = c.loop-j.invariant in
+    let p = c.put_vertex in
     let k = p.auto.1 in (
-      rw (p.ensures, l.3) (clearing_turn blank l.0 at-loop-test.loop-j-test.true start.requires),
+      rw (p.ensures, l.3) (clearing_turn blank l.0 c.loop-j-test.true c.requires),
       ap (λ (h : Held). h.beyond) p.ensures ∙ l.1,
       record { x = k.0 ∙ l.2.x; y = k.1.0 ∙ l.2.y; bulge = k.1.1.0 ∙ l.2.bulge },
       l.3,
@@ -50,8 +41,6 @@ shape_of-outbulges c = c.loop-j.invariant.2.bulge
 
 pub returns : goal.returns
 returns c =
-    let at-loop = c.before in
-    let start = at-loop.before.before.before.before in
-    let l = at-loop.loop-j.invariant in
-    let a = start.args in
-    held-is _ (held_by a.columns a.outxs-1.now a.outys-1.now a.outbulges-1.now) _ (clearing_done blank l.0 c.loop-j-test.false) l.1
+    let l = c.loop-j.invariant in
+    let a = c.args in
+    held-is _ (held_by a.columns a.outxs.now a.outys.now a.outbulges.now) _ (clearing_done blank l.0 c.loop-j-test.false) l.1

@@ -14,21 +14,16 @@ copy_vertices-requires c = let pre = c.requires in (pre.0.long, source_fits _ _ 
 
 pub wipe-requires : goal.wipe-requires
 wipe-requires c =
-    let at-copy-vertices = c.before.before.before.before.before.before.before.before.before.before.before.before.before in
-    let start = at-copy-vertices.before.before.before.before.before.before.before.before.before.before.before.before.before in
-    let k = at-copy-vertices.copy_vertices.auto.1.1.1.1.1 in
-    let pre = start.requires in
+    let k = c.copy_vertices.auto.1.1.1.1.1 in
+    let pre = c.requires in
     source-within _ _ _ _ _ pre.0 pre.1 pre.2 _ (held_alike _ _ _ _ _ _ _ (record { x = k.0; y = k.1.0; bulge = k.1.1.0 }))
 
 pub put_spans-requires : goal.put_spans-requires
 put_spans-requires c =
-    let at-wipe = c.before.before.before.before.before.before.before.before.before.before.before.before.before in
-    let at-segment-count = at-wipe.before.before.before.before.before.before.before in
-    let start = at-segment-count.before.before.before.before.before.before.before.before.before.before.before.before.before.before.before.before.before.before.before.before in
-    let few = segments-most start.args.closed start.args.v in
-    let n = at-segment-count.segment_count-count.ensures in
-    let same = at-wipe.wipe.auto.1.1.1.1.1.1.0 in
-    (omega (arith, start.requires.0.origins-1, start.requires.1, origins-length start.args.origins_1.now), omega (arith, start.requires.0.most))
+    let few = segments-most c.args.closed c.args.v in
+    let n = c.segment_count-count.ensures in
+    let same = c.wipe.auto.1.1.1.1.1.1.0 in
+    (omega (arith, c.requires.0.origins, c.requires.1, origins-length c.args.origins.now), omega (arith, c.requires.0.most))
 
 pub overflow_cast-result : goal.overflow_cast-result
 overflow_cast-result c =
@@ -37,12 +32,7 @@ overflow_cast-result c =
 pub returns : goal.returns
 unfolding copied
 returns c =
-    let at-put-spans = c.before.before in
-    let at-wipe = at-put-spans.before.before.before.before.before.before.before.before.before.before.before.before.before.before in
-    let at-segment-count = at-wipe.before.before.before.before.before.before.before in
-    let at-copy-vertices = at-segment-count.before.before.before.before.before.before.before in
-    let start = at-copy-vertices.before.before.before.before.before.before.before.before.before.before.before.before.before in
-    let pre = start.requires in (
+    let pre = c.requires in (
       rw (← pre.0.long),
-      copied-shown _ _ _ _ _ pre.0 pre.1 _ _ (at-wipe.wipe.ensures ∙ rw at-copy-vertices.copy_vertices.ensures) (at-put-spans.put_spans.ensures ∙ rw at-segment-count.segment_count-count.ensures),
+      copied-shown _ _ _ _ _ pre.0 pre.1 _ _ (c.wipe.ensures ∙ rw c.copy_vertices.ensures) (c.put_spans.ensures ∙ rw c.segment_count-count.ensures),
     )

@@ -14,16 +14,11 @@ loop-i-init c = writing_none
 
 pub loop-i-preserved : goal.loop-i-preserved
 loop-i-preserved c =
-    let at-loop-test = c.before in
-    let at-loop = at-loop-test.before in
-    let start = at-loop.before in
-    let a = start.args in
-    let l = at-loop.loop-i in
-    let t = at-loop-test.loop-i-test.true in
-    rw (get_or-take a.count a.source.now l.i nan t) at (copying_turn nan l.invariant t (sym (length-take-le a.count a.source.now start.requires.0)) start.requires.1)
+    let a = c.args in
+    let l = c.loop-i in
+    let t = c.loop-i-test.true in
+    rw (get_or-take a.count a.source.now l.i nan t) at (copying_turn nan l.invariant t (sym (length-take-le a.count a.source.now c.requires.0)) c.requires.1)
 
 pub returns : goal.returns
 returns c =
-    let at-loop = c.before in
-    let start = at-loop.before in
-    copying_done at-loop.loop-i.invariant c.loop-i-test.false (sym (length-take-le start.args.count start.args.source.now start.requires.0))
+    copying_done c.loop-i.invariant c.loop-i-test.false (sym (length-take-le c.args.count c.args.source.now c.requires.0))

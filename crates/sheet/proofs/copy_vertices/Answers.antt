@@ -6,32 +6,21 @@ use Rattle.sheet.proofs.copy_vertices.Goals as goal
 
 pub copy_numbers-requires : goal.copy_numbers-requires
 copy_numbers-requires c =
-    let at-if1 = c.before in
-    let start = at-if1.before.before.before.before.before.before.before in
-    let p = column_places _ _ _ _ _ _ _ _ at-if1.if-columns.true start.requires in (p.0.0, p.1.0)
+    let p = column_places _ _ _ _ _ _ _ _ c.if-columns.true c.requires in (p.0.0, p.1.0)
 
 pub copy_numbers-requires-then-columns : goal.copy_numbers-requires-then-columns
 copy_numbers-requires-then-columns c =
-    let at-if1 = c.before.before.before.before.before in
-    let start = at-if1.before.before.before.before.before.before.before in
-    let p = column_places _ _ _ _ _ _ _ _ at-if1.if-columns.true start.requires in (p.0.1, p.1.1)
+    let p = column_places _ _ _ _ _ _ _ _ c.if-columns.true c.requires in (p.0.1, p.1.1)
 
 pub copy_numbers-requires-then-columns-2 : goal.copy_numbers-requires-then-columns-2
 copy_numbers-requires-then-columns-2 c =
-    let at-if1 = c.before.before.before.before.before.before.before.before.before in
-    let start = at-if1.before.before.before.before.before.before.before in
-    let p = column_places _ _ _ _ _ _ _ _ at-if1.if-columns.true start.requires in (p.0.2, p.1.2)
+    let p = column_places _ _ _ _ _ _ _ _ c.if-columns.true c.requires in (p.0.2, p.1.2)
 
 pub returns-then-columns : goal.returns-then-columns
 returns-then-columns c =
-    let at-copy-numbers3 = c.before.before in
-    let at-copy-numbers2 = at-copy-numbers3.before.before.before.before in
-    let at-copy-numbers = at-copy-numbers2.before.before.before.before in
-    let at-if1 = at-copy-numbers.before.before in
-    let start = at-if1.before.before.before.before.before.before.before in
-    let p = start.requires in
-    let t = at-if1.if-columns.true in
-    rw (t, at-copy-numbers.copy_numbers.ensures, at-copy-numbers2.copy_numbers-then-columns.ensures, at-copy-numbers3.copy_numbers-then-columns-2.ensures, rw t at p.0) (copied-columns _ _ _ _ _ _ (rw (p.0, t) at p.1))
+    let p = c.requires in
+    let t = c.if-columns.true in
+    rw (t, c.copy_numbers.ensures, c.copy_numbers-then-columns.ensures, c.copy_numbers-then-columns-2.ensures, rw t at p.0) (copied-columns _ _ _ _ _ _ (rw (p.0, t) at p.1))
 
 pub overflow_mul-v : goal.overflow_mul-v
 overflow_mul-v c =
@@ -39,15 +28,10 @@ overflow_mul-v c =
 
 pub copy_numbers-requires-2 : goal.copy_numbers-requires-2
 copy_numbers-requires-2 c =
-    let at-if1 = c.before in
-    let start = at-if1.before.before.before.before.before.before.before in
-    row-places _ _ _ _ _ _ _ _ at-if1.if-columns.false start.requires
+    row-places _ _ _ _ _ _ _ _ c.if-columns.false c.requires
 
 pub returns : goal.returns
 returns c =
-    let at-copy-numbers4 = c.before.before in
-    let at-if1 = at-copy-numbers4.before.before in
-    let start = at-if1.before.before.before.before.before.before.before in
-    let p = start.requires in
-    let t = at-if1.if-columns.false in
-    rw (t, at-copy-numbers4.copy_numbers-2.ensures, rw t at p.0) (copied-rows _ _ _ _ (rw (p.0, t) at p.1))
+    let p = c.requires in
+    let t = c.if-columns.false in
+    rw (t, c.copy_numbers-2.ensures, rw t at p.0) (copied-rows _ _ _ _ (rw (p.0, t) at p.1))

@@ -6,24 +6,16 @@ use Rattle.sheet.proofs.draw.Goals as goal
 
 pub draw_closed-requires : goal.draw_closed-requires
 draw_closed-requires c =
-    let at-if1 = c.before.before.before.before.before.before in
-    let start = at-if1.before.before.before.before.before.before.before.before.before.before in
-    let r = start.requires in rw (at-if1.if-closed.true, segments-closed _ r.ready.two) at r
+    let r = c.requires in rw (c.if-closed.true, segments-closed _ r.ready.two) at r
 
 pub returns-then-closed : goal.returns-then-closed
 returns-then-closed c =
-    let at-draw-closed = c.before.before.before.before.before.before.before.before.before.before.before.before in
-    let at-if1 = at-draw-closed.before.before.before.before.before.before.before in
-    at-draw-closed.draw_closed.ensures ∙ rw at-if1.if-closed.true
+    c.draw_closed.ensures ∙ rw c.if-closed.true
 
 pub draw_open-requires : goal.draw_open-requires
 draw_open-requires c =
-    let at-if1 = c.before.before.before.before.before.before in
-    let start = at-if1.before.before.before.before.before.before.before.before.before.before in
-    let r = start.requires in rw (at-if1.if-closed.false, segments_open _ r.ready.two) at r
+    let r = c.requires in rw (c.if-closed.false, segments_open _ r.ready.two) at r
 
 pub returns : goal.returns
 returns c =
-    let at-draw-open = c.before.before.before.before.before.before.before.before.before.before.before.before in
-    let at-if1 = at-draw-open.before.before.before.before.before.before.before in
-    at-draw-open.draw_open.ensures ∙ rw at-if1.if-closed.false
+    c.draw_open.ensures ∙ rw c.if-closed.false

@@ -16,29 +16,21 @@ overflow_sub-v c = omega (arith, c.requires.0.ready.two)
 
 pub store_turns-sheet-requires : goal.store_turns-sheet-requires
 store_turns-sheet-requires c =
-    let at-next-place = c.before.before.before.before.before.before in
-    let start = at-next-place.before.before.before.before.before.before.before.before.before.before.before in
-    let pre = start.requires in
+    let pre = c.requires in
     record {
       pointed_value = pre.0.told;
-      starts = record { long = pre.0.ready.long; below = at-next-place.next_place-next.ensures.1; turns = turns-around pre.0 pre.1 };
+      starts = record { long = pre.0.ready.long; below = c.next_place-next.ensures.1; turns = turns-around pre.0 pre.1 };
     }
 
 pub draw_closing-requires : goal.draw_closing-requires
 draw_closing-requires c =
-    let at-store-turns = c.before.before.before.before.before.before.before.before.before.before.before.before.before.before.before.before.before.before in
-    let start = at-store-turns.before.before.before.before.before.before.before.before.before.before.before.before.before.before.before.before.before.before in
-    let t = at-store-turns.store_turns-sheet in
+    let t = c.store_turns-sheet in
     let k = t.auto.1.1.1.1.1.1.1.1.1.1.1 in
-    let pre = start.requires in
-    (around-lasts _ _ _ _ _ _ start.args.led t.result pre.0 (all_alike _ _ _ _ _ _ _ _ _ _ _ _ _ (record { x = k.0; y = k.1.0; bulge = k.1.1.0 }) k.1.1.1.0 k.1.1.1.1.0 k.1.1.1.1.1.0) pre.1 t.ensures.origins_after, λ z. pre.0.told ∙ pre.1.tipped z)
+    let pre = c.requires in
+    (around-lasts _ _ _ _ _ _ c.args.led t.result pre.0 (all_alike _ _ _ _ _ _ _ _ _ _ _ _ _ (record { x = k.0; y = k.1.0; bulge = k.1.1.0 }) k.1.1.1.0 k.1.1.1.1.0 k.1.1.1.1.1.0) pre.1 t.ensures.origins_after, λ z. pre.0.told ∙ pre.1.tipped z)
 
 pub returns : goal.returns
 returns c =
-    let at-draw-closing = c.before.before.before.before.before.before.before.before.before.before.before.before in
-    let at-store-turns = at-draw-closing.before.before.before.before.before.before.before.before.before.before.before.before.before.before.before.before.before.before.before in
-    let at-next-place = at-store-turns.before.before.before.before.before.before.before in
-    let start = at-next-place.before.before.before.before.before.before.before.before.before.before.before in
-    let t = at-store-turns.store_turns-sheet in
-    let a = start.args in
-    at-draw-closing.draw_closing.ensures ∙ ap (λ (r : Trail). closes a.room a.led.walk-1.entry a.settings.eps r) t.ensures.origins_after ∙ rw at-next-place.next_place-next.ensures.0
+    let t = c.store_turns-sheet in
+    let a = c.args in
+    c.draw_closing.ensures ∙ ap (λ (r : Trail). closes a.room a.led.walk.entry a.settings.eps r) t.ensures.origins_after ∙ rw c.next_place-next.ensures.0

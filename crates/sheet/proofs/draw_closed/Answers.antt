@@ -18,40 +18,29 @@ vertex_in-requires c = let r = c.requires.ready in omega (arith, r.long, r.two)
 
 pub store_turns-led-requires : goal.store_turns-led-requires
 store_turns-led-requires c =
-    let at-standing = c.before.before.before.before.before.before in
-    let start = at-standing.before.before.before.before.before.before.before.before.before.before.before in
-    let d = start.requires in
+    let d = c.requires in
     let r = d.ready in
     let none : 2 - 2 ≡ 0 = omega arith in
-    let moves = moves_a_segment start.args.settings.corners in
-    let few = moves-few start.args.settings.corners in
+    let moves = moves_a_segment c.args.settings.corners in
+    let few = moves-few c.args.settings.corners in
     record {
       pointed_value = d.told;
-      starts = record { long = r.long; below = omega (arith, r.two); turns = turns-first 2 2 _ _ r at-standing.standing-first.ensures moves few (omega arith) (rw none (omega arith)) };
+      starts = record { long = r.long; below = omega (arith, r.two); turns = turns-first 2 2 _ _ r c.standing-first.ensures moves few (omega arith) (rw none (omega arith)) };
     }
 
 pub draw_around-requires : goal.draw_around-requires
 draw_around-requires c =
-    let at-store-turns = c.before.before.before.before.before.before.before.before.before.before.before.before.before.before.before.before.before.before in
-    let at-standing = at-store-turns.before.before.before.before.before.before.before in
-    let at-vertex-in = at-standing.before in
-    let start = at-vertex-in.before.before.before.before.before.before.before.before.before.before in
-    let t = at-store-turns.store_turns-led in
+    let start = c.before.before.before.before.before.before.before.before.before.before.before.before.before.before.before.before.before.before.before.before.before.before.before.before.before.before.before.before.before.before.before.before.before.before.before.before in let t = c.store_turns-led in
     let k = t.auto.1.1.1.1.1.1.1.1.1.1.1 in
-    let first = at-standing.standing-first.ensures in
+    let first = c.standing-first.ensures in
     let start = start in (
-      drawable_alike start.requires (all_alike _ _ _ _ _ _ _ _ _ _ _ _ _ (record { x = k.0; y = k.1.0; bulge = k.1.1.0 }) k.1.1.1.0 k.1.1.1.1.0 k.1.1.1.1.1.0),
-      closed-entered start.args.settings _ _ start.args.room start.args.pointed _ t.result start.requires (t.ensures.origins_after ∙ rw (first.0, first.2, at-vertex-in.vertex_in.ensures)) t.ensures.fit,
+      drawable_alike c.requires (all_alike _ _ _ _ _ _ _ _ _ _ _ _ _ (record { x = k.0; y = k.1.0; bulge = k.1.1.0 }) k.1.1.1.0 k.1.1.1.1.0 k.1.1.1.1.1.0),
+      closed-entered c.args.settings _ _ c.args.room c.args.pointed _ t.result c.requires (t.ensures.origins_after ∙ rw (first.0, first.2, c.vertex_in.ensures)) t.ensures.fit,
     )
 
 pub returns : goal.returns
 returns c =
-    let at-draw-around = c.before.before.before.before.before.before.before.before.before.before.before.before in
-    let at-store-turns = at-draw-around.before.before.before.before.before.before.before.before.before.before.before.before.before.before.before.before.before.before.before in
-    let at-standing = at-store-turns.before.before.before.before.before.before.before in
-    let at-vertex-in = at-standing.before in
-    let start = at-vertex-in.before.before.before.before.before.before.before.before.before.before in
-    let t = at-store-turns.store_turns-led in
-    let first = at-standing.standing-first.ensures in
-    at-draw-around.draw_around.ensures
-    ∙ closed-built start.args.settings _ _ start.args.room start.args.pointed _ t.result start.requires (t.ensures.origins_after ∙ rw (first.0, first.2, at-vertex-in.vertex_in.ensures))
+    let t = c.store_turns-led in
+    let first = c.standing-first.ensures in
+    c.draw_around.ensures
+    ∙ closed-built c.args.settings _ _ c.args.room c.args.pointed _ t.result c.requires (t.ensures.origins_after ∙ rw (first.0, first.2, c.vertex_in.ensures))

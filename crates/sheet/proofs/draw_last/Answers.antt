@@ -14,45 +14,29 @@ use Rattle.sheet.proofs.draw_last.Goals as goal
 pub wipe-requires : goal.wipe-requires
 wipe-requires c =
     let p = c.requires in
-    record { small = p.small; from-vertex = omega arith; from-flag = omega arith; from-index = omega arith; vertices = p.vertices; flags = p.flags-1; indexes = p.indexes-1; origins = p.origins-1 }
+    record { small = p.small; from-vertex = omega arith; from-flag = omega arith; from-index = omega arith; vertices = p.vertices; flags = p.flags; indexes = p.indexes; origins = p.origins }
 
 pub returns-then-both : goal.returns-then-both
 unfolding lasts
 returns-then-both c =
-    let at-wipe = c.before.before.before.before.before.before.before.before.before.before.before.before.before in
-    let at-if1 = at-wipe.before.before.before.before.before.before.before in
-    let at_both = at-if1.before in
-    let at-is-collapsed = at_both.before in
-    yes _ _ _ (sym (at_both.both.ensures ∙ rw at-is-collapsed.is_collapsed.ensures) ∙ at-if1.if-both.true) (rw (c.empty.ensures, at-wipe.wipe.ensures))
+    yes _ _ _ (sym (c.both.ensures ∙ rw c.is_collapsed.ensures) ∙ c.if-both.true) (rw (c.empty.ensures, c.wipe.ensures))
 
 pub store_move-last-requires : goal.store_move-last-requires
 store_move-last-requires c =
-    let at-span-to = c.before.before.before.before.before.before in
-    let start = at-span-to.before.before.before.before.before.before.before.before.before.before.before.before in
-    let p = start.requires in
-    ((λ z. room_fewer (omega arith) (lasts-room p)), omega (arith, p.outputs), span_coded _ _ _ _ _ at-span-to.span_to-span.ensures p.sources)
+    let p = c.requires in
+    ((λ z. room_fewer (omega arith) (lasts-room p)), omega (arith, p.outputs), span_coded _ _ _ _ _ c.span_to-span.ensures p.sources)
 
 pub finish_open-requires : goal.finish_open-requires
 finish_open-requires c =
-    let at-store-move = c.before.before.before.before.before.before.before.before.before.before.before.before.before.before.before.before.before.before in
-    let at-span-to = at-store-move.before.before.before.before.before.before.before in
-    let start = at-span-to.before.before.before.before.before.before.before.before.before.before.before.before in
-    let last = at-store-move.store_move-last in
+    let last = c.store_move-last in
     let k = last.auto.1 in
-    let few = drawn-few 0 (step_of start.args.sheet.walk-1.pen at-span-to.span_to-span.result start.args.eps) in
-    last_within _ 2 _ _ last.result.places _ start.requires (all_alike _ _ _ _ _ _ _ _ _ _ _ _ _ (record { x = k.0; y = k.1.0; bulge = k.1.1.0 }) k.1.1.1.0 k.1.1.1.1.0 k.1.1.1.1.1.0)
+    let few = drawn-few 0 (step_of c.args.sheet.walk.pen c.span_to-span.result c.args.eps) in
+    last_within _ 2 _ _ last.result.places _ c.requires (all_alike _ _ _ _ _ _ _ _ _ _ _ _ _ (record { x = k.0; y = k.1.0; bulge = k.1.1.0 }) k.1.1.1.0 k.1.1.1.1.0 k.1.1.1.1.1.0)
     last.ensures.origins_after (omega (arith, few)) (omega (arith, few))
 
 pub returns : goal.returns
 unfolding lasts last_span
 returns c =
-    let at-finish-open = c.before.before.before.before.before.before.before.before.before.before.before.before in
-    let at-store-move = at-finish-open.before.before.before.before.before.before.before.before.before.before.before.before.before.before.before.before.before.before.before in
-    let at-span-to = at-store-move.before.before.before.before.before.before.before in
-    let at-end = at-span-to.before in
-    let at-if1 = at-end.before in
-    let at_both = at-if1.before in
-    let at-is-collapsed = at_both.before in
-    let last = at-store-move.store_move-last in
-    no _ _ _ (sym (at_both.both.ensures ∙ rw at-is-collapsed.is_collapsed.ensures) ∙ at-if1.if-both.false)
-    (rw (at-finish-open.finish_open.ensures, last.ensures.origins_after, last.ensures.pen_value.0, at-span-to.span_to-span.ensures, at-end.end.ensures))
+    let last = c.store_move-last in
+    no _ _ _ (sym (c.both.ensures ∙ rw c.is_collapsed.ensures) ∙ c.if-both.false)
+    (rw (c.finish_open.ensures, last.ensures.origins_after, last.ensures.pen_value.0, c.span_to-span.ensures, c.end.ensures))

@@ -19,34 +19,24 @@ overflow_sub-v c = omega (arith, c.requires.ready.two)
 
 pub store_turns-sheet-requires : goal.store_turns-sheet-requires
 store_turns-sheet-requires c =
-    let at-standing = c.before.before.before.before.before.before in
-    let start = at-standing.before.before.before.before.before.before.before.before.before.before.before in
-    let d = start.requires in
+    let d = c.requires in
     let r = d.ready in
-    let m = moves_a_segment start.args.settings.corners in
-    let few = product_less m (start.args.v - 1) (omega (arith, r.two)) in
+    let m = moves_a_segment c.args.settings.corners in
+    let few = product_less m (c.args.v - 1) (omega (arith, r.two)) in
     record {
       pointed_value = d.told;
-      starts = record { long = r.long; below = omega (arith, r.two); turns = turns-first _ 1 _ _ r at-standing.standing-first.ensures m (moves-few start.args.settings.corners) (omega arith) (omega (arith, few, d.enough)) };
+      starts = record { long = r.long; below = omega (arith, r.two); turns = turns-first _ 1 _ _ r c.standing-first.ensures m (moves-few c.args.settings.corners) (omega arith) (omega (arith, few, d.enough)) };
     }
 
 pub draw_last-requires : goal.draw_last-requires
 draw_last-requires c =
-    let at-store-turns = c.before.before.before.before.before.before.before.before.before.before.before.before.before.before.before.before.before.before in
-    let at-standing = at-store-turns.before.before.before.before.before.before.before in
-    let start = at-standing.before.before.before.before.before.before.before.before.before.before.before in
-    let t = at-store-turns.store_turns-sheet in
+    let t = c.store_turns-sheet in
     let k = t.auto.1.1.1.1.1.1.1.1.1.1.1 in
-    first-lasts _ _ _ _ _ _ _ at-standing.standing-first.result t.result start.requires (all_alike _ _ _ _ _ _ _ _ _ _ _ _ _ (record { x = k.0; y = k.1.0; bulge = k.1.1.0 }) k.1.1.1.0 k.1.1.1.1.0 k.1.1.1.1.1.0) at-standing.standing-first.ensures t.ensures.origins_after
+    first-lasts _ _ _ _ _ _ _ c.standing-first.result t.result c.requires (all_alike _ _ _ _ _ _ _ _ _ _ _ _ _ (record { x = k.0; y = k.1.0; bulge = k.1.1.0 }) k.1.1.1.0 k.1.1.1.1.0 k.1.1.1.1.1.0) c.standing-first.ensures t.ensures.origins_after
 
 pub returns : goal.returns
 returns c =
-    let at-draw-last = c.before.before.before.before.before.before.before.before.before.before.before.before in
-    let at-store-turns = at-draw-last.before.before.before.before.before.before.before.before.before.before.before.before.before.before.before.before.before.before.before in
-    let at-standing = at-store-turns.before.before.before.before.before.before.before in
-    let at-vertex-in = at-standing.before in
-    let start = at-vertex-in.before.before.before.before.before.before.before.before.before.before in
-    let t = at-store-turns.store_turns-sheet in
-    let first = at-standing.standing-first.ensures in
-    at-draw-last.draw_last.ensures
-    ∙ open_built start.args.settings _ _ start.args.room start.args.pointed _ t.result start.requires (t.ensures.origins_after ∙ rw (first.0, first.2, at-vertex-in.vertex_in.ensures))
+    let t = c.store_turns-sheet in
+    let first = c.standing-first.ensures in
+    c.draw_last.ensures
+    ∙ open_built c.args.settings _ _ c.args.room c.args.pointed _ t.result c.requires (t.ensures.origins_after ∙ rw (first.0, first.2, c.vertex_in.ensures))

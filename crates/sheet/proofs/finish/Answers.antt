@@ -13,20 +13,14 @@ wipe-requires c = c.requires
 pub returns-then-all_finite : goal.returns-then-all_finite
 unfolding finishes
 returns-then-all_finite c =
-    let at-wipe = c.before.before.before.before.before.before.before.before.before.before.before.before in
-    let at-if1 = at-wipe.before.before.before.before.before.before.before.before in
-    let at-all-finite = at-if1.before in
-    yes _ _ _ (sym at-all-finite.all_finite.ensures ∙ at-if1.if-all_finite.true) (ap (finished (Done _)) at-wipe.wipe.ensures)
+    yes _ _ _ (sym c.all_finite.ensures ∙ c.if-all_finite.true) (ap (finished (Done _)) c.wipe.ensures)
 
 pub wipe-requires-2 : goal.wipe-requires-2
 wipe-requires-2 c =
     let p = c.requires in
-    record { small = p.small; from-vertex = omega arith; from-flag = omega arith; from-index = omega arith; vertices = p.vertices; flags = p.flags-1; indexes = p.indexes-1; origins = p.origins-1 }
+    record { small = p.small; from-vertex = omega arith; from-flag = omega arith; from-index = omega arith; vertices = p.vertices; flags = p.flags; indexes = p.indexes; origins = p.origins }
 
 pub returns : goal.returns
 unfolding finishes
 returns c =
-    let at-wipe2 = c.before.before.before.before.before.before.before.before.before.before.before.before in
-    let at-if1 = at-wipe2.before.before.before.before.before.before.before in
-    let at-all-finite = at-if1.before in
-    no _ _ _ (sym at-all-finite.all_finite.ensures ∙ at-if1.if-all_finite.false) (ap (finished NotFinite) at-wipe2.wipe-2.ensures)
+    no _ _ _ (sym c.all_finite.ensures ∙ c.if-all_finite.false) (ap (finished NotFinite) c.wipe-2.ensures)

@@ -11,34 +11,25 @@ use Rattle.sheet.proofs.finish_open.Goals as goal
 pub wipe-requires : goal.wipe-requires
 wipe-requires c =
     let p = c.requires in
-    record { small = p.small; from-vertex = omega arith; from-flag = omega arith; from-index = omega arith; vertices = p.vertices; flags = p.flags-1; indexes = p.indexes-1; origins = p.origins-1 }
+    record { small = p.small; from-vertex = omega arith; from-flag = omega arith; from-index = omega arith; vertices = p.vertices; flags = p.flags; indexes = p.indexes; origins = p.origins }
 
 pub returns-then-k-eq0 : goal.returns-then-k-eq0
 unfolding finishes_open
 returns-then-k-eq0 c =
-    let at-wipe = c.before.before.before.before.before.before.before.before.before.before.before.before.before in
-    let at-if1 = at-wipe.before.before.before.before.before.before.before in
-    yes _ _ _ (eq-eqb _ _ at-if1.if-k-eq0.true) (rw (c.empty.ensures, at-wipe.wipe.ensures))
+    yes _ _ _ (eq-eqb _ _ c.if-k-eq0.true) (rw (c.empty.ensures, c.wipe.ensures))
 
 pub put_vertex-requires : goal.put_vertex-requires
 put_vertex-requires c = let p = c.requires in omega (arith, p.from-vertex, p.vertices)
 
 pub finish-requires : goal.finish-requires
 finish-requires c =
-    let at-put-vertex = c.before.before.before.before.before.before.before.before.before.before.before.before in
-    let start = at-put-vertex.before.before.before.before.before.before.before.before.before.before.before.before.before.before in
-    let p = start.requires in
-    let k = at-put-vertex.put_vertex.auto.1 in
+    let p = c.requires in
+    let k = c.put_vertex.auto.1 in
     let long : Long _ _ _ _ _ _ = record { x = k.0; y = k.1.0; bulge = k.1.1.0 } in
-    record { small = p.small; from-vertex = p.from-vertex; from-flag = p.from-flag; from-index = p.from-index; vertices = still_fits p.vertices (held_alike _ _ _ _ _ _ _ long); flags = p.flags-1; indexes = p.indexes-1; origins = p.origins-1 }
+    record { small = p.small; from-vertex = p.from-vertex; from-flag = p.from-flag; from-index = p.from-index; vertices = still_fits p.vertices (held_alike _ _ _ _ _ _ _ long); flags = p.flags; indexes = p.indexes; origins = p.origins }
 
 pub returns : goal.returns
 unfolding finishes_open
 returns c =
-    let at-finish = c.before.before.before.before.before.before.before.before.before.before.before.before in
-    let at-put-vertex = at-finish.before.before.before.before.before.before.before.before.before.before.before.before.before in
-    let at-doubt = at-put-vertex.before.before.before.before.before in
-    let at-from-vector2 = at-doubt.before in
-    let at-if1 = at-from-vector2.before in
-    no _ _ _ (ne_eqb _ _ at-if1.if-k-eq0.false)
-    (rw (at-finish.finish.ensures, at-put-vertex.put_vertex.ensures, at-doubt.doubt.ensures, doubt-more, at-from-vector2.from_vector2-last.ensures))
+    no _ _ _ (ne_eqb _ _ c.if-k-eq0.false)
+    (rw (c.finish.ensures, c.put_vertex.ensures, c.doubt.ensures, doubt-more, c.from_vector2-last.ensures))

@@ -15,7 +15,7 @@ overflow_cast-source c = omega (arith, c.requires.1, c.loop-k-test.true)
 pub put_origin-requires : goal.put_origin-requires
 put_origin-requires c =
     let w = c.loop-k.invariant in
-    (omega (arith, w.long, c.requires.0, c.loop-k-test.true, origins-length c.loop-k.origins-1, origins-length c.args.origins_1.now), omega (arith, c.requires.1, c.loop-k-test.true))
+    (omega (arith, w.long, c.requires.0, c.loop-k-test.true, origins-length c.loop-k.origins, origins-length c.args.origins.now), omega (arith, c.requires.1, c.loop-k-test.true))
 
 pub loop-k-preserved : goal.loop-k-preserved
 loop-k-preserved c =

@@ -14,57 +14,41 @@ store_tip-tipped-requires c =
 
 pub store_move-requires : goal.store_move-requires
 store_move-requires c =
-    let at-store-tip = c.before.before.before.before.before.before.before.before.before.before.before.before.before.before.before.before.before.before in
-    let start = at-store-tip.before.before.before.before.before.before.before.before.before.before.before.before.before in
-    let tipped = at-store-tip.store_tip-tipped in
-    let pre = (start.requires.rooms, start.requires.coded) in (
-      (λ z. row_leaves _ 1 _ _ _ tipped.ensures.origins_after (room_fewer (omega arith) (pre.0.0 z))),
-      omega (arith, row_number _ _ _ tipped.ensures.pen_value, pre.0.1, tip-one start.args.join start.args.connector),
-      pre.1.0,
+    let tipped = c.store_tip-tipped in
+    let pre = c.requires in (
+      (λ z. row_leaves _ 1 _ _ _ tipped.ensures.origins_after (room_fewer (omega arith) (pre.rooms.0 z))),
+      omega (arith, row_number _ _ _ tipped.ensures.pen_value, pre.rooms.1, tip-one c.args.join c.args.connector),
+      pre.coded.0,
     )
 
 pub shape_of-outxs : goal.shape_of-outxs
 shape_of-outxs c =
-    let at-store-move = c.before.before.before.before.before.before.before.before.before.before.before.before in
-    let at-store-tip = at-store-move.before.before.before.before.before.before.before.before.before.before.before.before.before.before.before.before.before.before.before in
-    at-store-move.store_move.auto.1.0 ∙ at-store-tip.store_tip-tipped.auto.1.0
+    c.store_move.auto.1.0 ∙ c.store_tip-tipped.auto.1.0
 
 pub shape_of-outys : goal.shape_of-outys
 shape_of-outys c =
-    let at-store-move = c.before.before.before.before.before.before.before.before.before.before.before.before in
-    let at-store-tip = at-store-move.before.before.before.before.before.before.before.before.before.before.before.before.before.before.before.before.before.before.before in
-    at-store-move.store_move.auto.1.1.0 ∙ at-store-tip.store_tip-tipped.auto.1.1.0
+    c.store_move.auto.1.1.0 ∙ c.store_tip-tipped.auto.1.1.0
 
 pub shape_of-outbulges : goal.shape_of-outbulges
 shape_of-outbulges c =
-    let at-store-move = c.before.before.before.before.before.before.before.before.before.before.before.before in
-    let at-store-tip = at-store-move.before.before.before.before.before.before.before.before.before.before.before.before.before.before.before.before.before.before.before in
-    at-store-move.store_move.auto.1.1.1.0 ∙ at-store-tip.store_tip-tipped.auto.1.1.1.0
+    c.store_move.auto.1.1.1.0 ∙ c.store_tip-tipped.auto.1.1.1.0
 
 pub shape_of-flags : goal.shape_of-flags
 shape_of-flags c =
-    let at-store-move = c.before.before.before.before.before.before.before.before.before.before.before.before in
-    let at-store-tip = at-store-move.before.before.before.before.before.before.before.before.before.before.before.before.before.before.before.before.before.before.before in
-    at-store-move.store_move.auto.1.1.1.1.0 ∙ at-store-tip.store_tip-tipped.auto.1.1.1.1.0
+    c.store_move.auto.1.1.1.1.0 ∙ c.store_tip-tipped.auto.1.1.1.1.0
 
 pub shape_of-indexes : goal.shape_of-indexes
 shape_of-indexes c =
-    let at-store-move = c.before.before.before.before.before.before.before.before.before.before.before.before in
-    let at-store-tip = at-store-move.before.before.before.before.before.before.before.before.before.before.before.before.before.before.before.before.before.before.before in
-    at-store-move.store_move.auto.1.1.1.1.1.0 ∙ at-store-tip.store_tip-tipped.auto.1.1.1.1.1.0
+    c.store_move.auto.1.1.1.1.1.0 ∙ c.store_tip-tipped.auto.1.1.1.1.1.0
 
 pub shape_of-origins : goal.shape_of-origins
 shape_of-origins c =
-    let at-store-move = c.before.before.before.before.before.before.before.before.before.before.before.before in
-    let at-store-tip = at-store-move.before.before.before.before.before.before.before.before.before.before.before.before.before.before.before.before.before.before.before in
-    at-store-move.store_move.auto.1.1.1.1.1.1.0 ∙ at-store-tip.store_tip-tipped.auto.1.1.1.1.1.1.0
+    c.store_move.auto.1.1.1.1.1.1.0 ∙ c.store_tip-tipped.auto.1.1.1.1.1.1.0
 
 pub returns : goal.returns
 returns c =
-    let at-store-move = c.before.before.before.before.before.before.before.before.before.before.before.before in
-    let at-store-tip = at-store-move.before.before.before.before.before.before.before.before.before.before.before.before.before.before.before.before.before.before.before in
-    let tipped = at-store-tip.store_tip-tipped in
-    let whole = at-store-move.store_move in
+    let tipped = c.store_tip-tipped in
+    let whole = c.store_move in
     record {
       origins_after = row-stored _ _ _ _ _ tipped.ensures.pen_value _ tipped.ensures.origins_after whole.ensures.origins_after;
       pen_value = row-pen _ _ _ _ tipped.ensures.pen_value whole.ensures.pen_value.0;

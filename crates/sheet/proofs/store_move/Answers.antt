@@ -13,22 +13,15 @@ step-stepped-requires c = c.requires.1
 
 pub store-places-requires : goal.store-places-requires
 store-places-requires c =
-    let at_both = c.before.before.before.before.before.before in
-    let at-step = at_both.before in
-    let start = at-step.before.before.before.before.before.before.before in
-    let pre = start.requires in
-    ((λ t. drawn-room _ _ at_both.both-drawn.ensures pre.0 t), step_coded _ _ _ at-step.step-stepped.ensures pre.2)
+    let pre = c.requires in
+    ((λ t. drawn-room _ _ c.both-drawn.ensures pre.0 t), step_coded _ _ _ c.step-stepped.ensures pre.2)
 
 pub returns : goal.returns
 unfolding drawn_by
 returns c =
-    let at_store = c.before.before.before.before.before.before.before.before.before.before.before.before.before in
-    let at_both = at_store.before.before.before.before.before.before.before in
-    let at-step = at_both.before in
-    let start = at-step.before.before.before.before.before.before.before in
-    let step = at-step.step-stepped.ensures in
-    let drawn = at_both.both-drawn.ensures ∙ ap (λ (s : Stepped). eqb start.args.leading 0 and s.kept) step in
+    let step = c.step-stepped.ensures in
+    let drawn = c.both-drawn.ensures ∙ ap (λ (s : Stepped). eqb c.args.leading 0 and s.kept) step in
     record {
-      origins_after = at_store.store-places.ensures ∙ rw (drawn, step) (sym (stores-last _ _ _));
-      pen_value = (ap (λ (s : Stepped). s.pen-1) step, drawn);
+      origins_after = c.store-places.ensures ∙ rw (drawn, step) (sym (stores-last _ _ _));
+      pen_value = (ap (λ (s : Stepped). s.pen) step, drawn);
     }

@@ -11,59 +11,42 @@ store_move-half-requires c =
 
 pub store_connectors-whole-requires : goal.store_connectors-whole-requires
 store_connectors-whole-requires c =
-    let at-store-move = c.before.before.before.before.before.before.before.before.before.before.before.before.before.before.before.before.before.before.before.before in
-    let start = at-store-move.before.before.before.before.before.before.before.before.before.before.before.before.before.before.before in
-    let half = at-store-move.store_move-half in
-    let pre = (start.requires.rooms, start.requires.coded) in
+    let half = c.store_move-half in
+    let pre = c.requires in
     record {
-      rooms = ((λ z. move_leaves _ _ _ _ _ half.ensures.origins_after (room_fewer (omega arith) (pre.0.0 z))), omega (arith, next-number _ _ _ half.ensures.pen_value.0, pre.0.1, tip-one start.args.turned.join start.args.turned.connector-1));
-      coded = (pre.1.1, pre.1.2);
+      rooms = ((λ z. move_leaves _ _ _ _ _ half.ensures.origins_after (room_fewer (omega arith) (pre.rooms.0 z))), omega (arith, next-number _ _ _ half.ensures.pen_value.0, pre.rooms.1, tip-one c.args.turned.join c.args.turned.connector));
+      coded = (pre.coded.1, pre.coded.2);
     }
 
 pub shape_of-outxs : goal.shape_of-outxs
 shape_of-outxs c =
-    let at-store-connectors = c.before.before.before.before.before.before.before.before.before.before.before.before.before.before in
-    let at-store-move = at-store-connectors.before.before.before.before.before.before.before.before.before.before.before.before.before.before.before.before.before.before.before.before.before in
-    at-store-connectors.store_connectors-whole.auto.1.0 ∙ at-store-move.store_move-half.auto.1.0
+    c.store_connectors-whole.auto.1.0 ∙ c.store_move-half.auto.1.0
 
 pub shape_of-outys : goal.shape_of-outys
 shape_of-outys c =
-    let at-store-connectors = c.before.before.before.before.before.before.before.before.before.before.before.before.before.before in
-    let at-store-move = at-store-connectors.before.before.before.before.before.before.before.before.before.before.before.before.before.before.before.before.before.before.before.before.before in
-    at-store-connectors.store_connectors-whole.auto.1.1.0 ∙ at-store-move.store_move-half.auto.1.1.0
+    c.store_connectors-whole.auto.1.1.0 ∙ c.store_move-half.auto.1.1.0
 
 pub shape_of-outbulges : goal.shape_of-outbulges
 shape_of-outbulges c =
-    let at-store-connectors = c.before.before.before.before.before.before.before.before.before.before.before.before.before.before in
-    let at-store-move = at-store-connectors.before.before.before.before.before.before.before.before.before.before.before.before.before.before.before.before.before.before.before.before.before in
-    at-store-connectors.store_connectors-whole.auto.1.1.1.0 ∙ at-store-move.store_move-half.auto.1.1.1.0
+    c.store_connectors-whole.auto.1.1.1.0 ∙ c.store_move-half.auto.1.1.1.0
 
 pub shape_of-flags : goal.shape_of-flags
 shape_of-flags c =
-    let at-store-connectors = c.before.before.before.before.before.before.before.before.before.before.before.before.before.before in
-    let at-store-move = at-store-connectors.before.before.before.before.before.before.before.before.before.before.before.before.before.before.before.before.before.before.before.before.before in
-    at-store-connectors.store_connectors-whole.auto.1.1.1.1.0 ∙ at-store-move.store_move-half.auto.1.1.1.1.0
+    c.store_connectors-whole.auto.1.1.1.1.0 ∙ c.store_move-half.auto.1.1.1.1.0
 
 pub shape_of-indexes : goal.shape_of-indexes
 shape_of-indexes c =
-    let at-store-connectors = c.before.before.before.before.before.before.before.before.before.before.before.before.before.before in
-    let at-store-move = at-store-connectors.before.before.before.before.before.before.before.before.before.before.before.before.before.before.before.before.before.before.before.before.before in
-    at-store-connectors.store_connectors-whole.auto.1.1.1.1.1.0 ∙ at-store-move.store_move-half.auto.1.1.1.1.1.0
+    c.store_connectors-whole.auto.1.1.1.1.1.0 ∙ c.store_move-half.auto.1.1.1.1.1.0
 
 pub shape_of-origins : goal.shape_of-origins
 shape_of-origins c =
-    let at-store-connectors = c.before.before.before.before.before.before.before.before.before.before.before.before.before.before in
-    let at-store-move = at-store-connectors.before.before.before.before.before.before.before.before.before.before.before.before.before.before.before.before.before.before.before.before.before in
-    at-store-connectors.store_connectors-whole.auto.1.1.1.1.1.1.0 ∙ at-store-move.store_move-half.auto.1.1.1.1.1.1.0
+    c.store_connectors-whole.auto.1.1.1.1.1.1.0 ∙ c.store_move-half.auto.1.1.1.1.1.1.0
 
 pub returns : goal.returns
 returns c =
-    let at-store-connectors = c.before.before.before.before.before.before.before.before.before.before.before.before.before.before in
-    let at_both = at-store-connectors.before.before.before.before.before.before.before.before in
-    let at-store-move = at_both.before.before.before.before.before.before.before.before.before.before.before.before.before in
-    let half = at-store-move.store_move-half in
-    let whole = at-store-connectors.store_connectors-whole in
+    let half = c.store_move-half in
+    let whole = c.store_connectors-whole in
     record {
       origins_after = span-stored _ _ _ _ _ half.ensures.pen_value.0 _ half.ensures.origins_after whole.ensures.origins_after;
-      pen_value = (span-pen _ _ _ _ half.ensures.pen_value.0 whole.ensures.pen_value, rw (at_both.both.ensures, half.ensures.pen_value.1));
+      pen_value = (span-pen _ _ _ _ half.ensures.pen_value.0 whole.ensures.pen_value, rw (c.both.ensures, half.ensures.pen_value.1));
     }

@@ -5,9 +5,7 @@ use Rattle.sheet.proofs.sweep_from.Goals as goal
 
 pub returns-then-bulge_is_zero : goal.returns-then-bulge_is_zero
 returns-then-bulge_is_zero c =
-    let at-bulge-is-zero = c.before in
-    let start = at-bulge-is-zero.before.before.before.before in
-    ((λ h. absurd (false≢true (sym h ∙ sym at-bulge-is-zero.bulge_is_zero.ensures ∙ c.if-bulge_is_zero.true))), start.requires.memo)
+    ((λ h. absurd (false≢true (sym h ∙ sym c.bulge_is_zero.ensures ∙ c.if-bulge_is_zero.true))), c.requires.memo)
 
 pub sweep_of-requires : goal.sweep_of-requires
 sweep_of-requires c =

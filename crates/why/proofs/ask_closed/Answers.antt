@@ -23,32 +23,25 @@ overflow_sub-v-2 c = omega (arith, c.requires.two)
 
 pub ask_turns-asking-requires : goal.ask_turns-asking-requires
 ask_turns-asking-requires c =
-    let turns = c.before.before in
-    let standing = turns.before in
-    let pre = standing.before.before.before.requires in
-    let none = none_added _ _ standing.standing-first.result standing.standing-first.ensures.0 in
-    let led = turns_added _ _ _ _ _ _ _ turns.ask_turns-led.result _ turns.ask_turns-led.ensures.0 in
+    let pre = c.requires in
+    let none = none_added _ _ c.standing-first.result c.standing-first.ensures.0 in
+    let led = turns_added _ _ _ _ _ _ _ c.ask_turns-led.result _ c.ask_turns-led.ensures.0 in
     record {
       long = pre.long;
       below = c.next_place-next.ensures.1;
-      ready = record { fit = turns.ask_turns-led.ensures.1; sources = omega (arith, pre.most, none.0, led.source); outputs = omega (arith, pre.most, none.1, led.number) };
+      ready = record { fit = c.ask_turns-led.ensures.1; sources = omega (arith, pre.most, none.0, led.source); outputs = omega (arith, pre.most, none.1, led.number) };
     }
 
 pub ask_closing-requires : goal.ask_closing-requires
 ask_closing-requires c =
-    let turns = c.before.before.before in
-    let standing = turns.before in
-    let none = none_added _ _ standing.standing-first.result standing.standing-first.ensures.0 in
-    let led = turns_added _ _ _ _ _ _ _ turns.ask_turns-led.result _ turns.ask_turns-led.ensures.0 in
+    let none = none_added _ _ c.standing-first.result c.standing-first.ensures.0 in
+    let led = turns_added _ _ _ _ _ _ _ c.ask_turns-led.result _ c.ask_turns-led.ensures.0 in
     let all = turns_added _ _ _ _ _ _ _ c.ask_turns-asking.result _ c.ask_turns-asking.ensures.0 in
-    omega (arith, standing.before.before.before.requires.most, none.1, led.number, all.number)
+    omega (arith, c.requires.most, none.1, led.number, all.number)
 
 pub returns : goal.returns
 returns c =
-    let around = c.before in
-    let turns = around.before.before.before in
-    let standing = turns.before in
-    let pre = standing.before.before.before.requires in
+    let pre = c.requires in
     c.ask_closing.ensures
-    ∙ closed-asked _ _ _ _ pre.long pre.two standing.standing-first.result turns.ask_turns-led.result (standing.standing-first.ensures.0 ∙ rw standing.before.vertex_at.ensures)
-    turns.ask_turns-led.ensures.0 around.next_place-next.ensures.0 around.ask_turns-asking.ensures.0
+    ∙ closed-asked _ _ _ _ pre.long pre.two c.standing-first.result c.ask_turns-led.result (c.standing-first.ensures.0 ∙ rw c.vertex_at.ensures)
+    c.ask_turns-led.ensures.0 c.next_place-next.ensures.0 c.ask_turns-asking.ensures.0

@@ -19,21 +19,13 @@ tip-tipped-requires c =
 
 pub step-whole-requires : goal.step-whole-requires
 step-whole-requires c =
-    let made = c.before.before.before in
-    let start = made.before.before.before.before in
     let e = ap (λ (n : Noted). n.pen.number.0) c.note-before.ensures in
     let f = note-number _ _ _ _ _ _ c.step-half.result c.step-half.ensures in
     let g = notes_number _ _ _ _ _ _ c.tip-tipped.result c.tip-tipped.ensures in
-    omega (arith, start.requires, g, tip-one start.args.closing made.connector-connector.result)
+    omega (arith, c.requires, g, tip-one c.args.closing c.connector-connector.result)
 
 pub returns : goal.returns
 returns c =
-    let both = c.before in
-    let tip = both.before in
-    let half = tip.before in
-    let note = half.before in
-    let moves = note.before in
-    let start = moves.before.before.before.before in
     c.finish.ensures
-    ∙ closing-asked start.args.closing _ _ start.args.asking note.note-before.result half.step-half.result tip.tip-tipped.result both.step-whole.result note.note-before.ensures
-    moves.before.span_to-span.ensures moves.connector-connector.ensures half.step-half.ensures tip.tip-tipped.ensures both.step-whole.ensures
+    ∙ closing-asked c.args.closing _ _ c.args.asking c.note-before.result c.step-half.result c.tip-tipped.result c.step-whole.result c.note-before.ensures
+    c.span_to-span.ensures c.connector-connector.ensures c.step-half.ensures c.tip-tipped.ensures c.step-whole.ensures

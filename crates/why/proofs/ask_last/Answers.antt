@@ -18,11 +18,5 @@ step-requires c =
 pub returns : goal.returns
 unfolding last_answer last_span
 returns c =
-    let step = c.before in
-    let note = step.before in
-    let whole = note.before in
-    let end = whole.before.before in
-    let else = end.before in
-    let both = else.before in
-    no _ _ _ (sym (both.both.ensures ∙ rw both.before.is_collapsed.ensures) ∙ else.if-both.false)
-    (c.finish_open.ensures ∙ ap finish_open (step.step.ensures ∙ rw (note.note-before.ensures, whole.straight-whole.ensures, whole.before.span_to-span.ensures, end.end-end.ensures)))
+    no _ _ _ (sym (c.both.ensures ∙ rw c.is_collapsed.ensures) ∙ c.if-both.false)
+    (c.finish_open.ensures ∙ ap finish_open (c.step.ensures ∙ rw (c.note-before.ensures, c.straight-whole.ensures, c.span_to-span.ensures, c.end-end.ensures)))

@@ -23,7 +23,5 @@ ask_last-requires c =
 
 pub returns : goal.returns
 returns c =
-    let turns = c.before in
-    let standing = turns.before in
-    let pre = standing.before.before.before.requires in
-    c.ask_last.ensures ∙ rw (turns.ask_turns-asking.ensures.0, standing.standing-first.ensures.0, standing.before.vertex_at.ensures) (open_whole _ _ _ _ pre.long pre.two)
+    let pre = c.requires in
+    c.ask_last.ensures ∙ rw (c.ask_turns-asking.ensures.0, c.standing-first.ensures.0, c.vertex_at.ensures) (open_whole _ _ _ _ pre.long pre.two)

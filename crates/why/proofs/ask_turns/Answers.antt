@@ -34,10 +34,8 @@ loop-turn-smaller c = omega (arith, c.loop-turn-test.true)
 
 pub loop-turn-preserved : goal.loop-turn-preserved
 loop-turn-preserved c =
-    let turn = c.before in
-    let here = turn.before.before in
-    let l = here.before.loop-turn in
-    asks-turn l.invariant _ turn.turn-asking.result here.loop-turn-test.true turn.vertex_at.ensures turn.turn-asking.ensures.0 turn.turn-asking.ensures.1 c.next_place-k.ensures
+    let l = c.loop-turn in
+    asks-turn l.invariant _ c.turn-asking.result c.loop-turn-test.true c.vertex_at.ensures c.turn-asking.ensures.0 c.turn-asking.ensures.1 c.next_place-k.ensures
 
 pub returns : goal.returns
 returns c = let l = c.loop-turn in (asks-done l.invariant c.loop-turn-test.false, l.invariant.ready.fit)

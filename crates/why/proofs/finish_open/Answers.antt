@@ -13,6 +13,4 @@ returns-then-number-eq0 c = yes _ _ _ (eq-eqb _ _ c.if-number-eq0.true) refl
 pub returns : goal.returns
 unfolding finish_open
 returns c =
-    let doubt = c.before.before in
-    let vertex = doubt.before in
-    no _ _ _ (ne_eqb _ _ vertex.before.if-number-eq0.false) (rw (c.finish.ensures, doubt.doubt.ensures, doubt-more, vertex.from_vector2-last.ensures))
+    no _ _ _ (ne_eqb _ _ c.if-number-eq0.false) (rw (c.finish.ensures, c.doubt.ensures, doubt-more, c.from_vector2-last.ensures))

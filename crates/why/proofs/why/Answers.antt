@@ -21,25 +21,16 @@ first_bad_number-bad-requires c = record {
 
 pub returns-in-At : goal.returns-in-At
 returns-in-At c =
-    let searched = c.before.before.before in
-    let few = searched.before in
-    bad-why (rows _) _ _ _ few.before.if-source-ne0.false _ (sym (length-vertices _)) few.if-v-gt-MOST_VERTICES.false _ (sym searched.first_bad_number-bad.ensures ∙ c.in-At.is)
+    bad-why (rows _) _ _ _ c.if-source-ne0.false _ (sym (length-vertices _)) c.if-v-gt-MOST_VERTICES.false _ (sym c.first_bad_number-bad.ensures ∙ c.in-At.is)
 
 pub returns-then-v-lt2 : goal.returns-then-v-lt2
 returns-then-v-lt2 c =
-    let told = c.before in
-    let searched = told.before.before in
-    let few = searched.before in
-    few-why (rows _) _ _ _ few.before.if-source-ne0.false _ (sym (length-vertices _)) few.if-v-gt-MOST_VERTICES.false (sym searched.first_bad_number-bad.ensures ∙ told.in_default.is) c.if-v-lt2.true
+    few-why (rows _) _ _ _ c.if-source-ne0.false _ (sym (length-vertices _)) c.if-v-gt-MOST_VERTICES.false (sym c.first_bad_number-bad.ensures ∙ c.in_default.is) c.if-v-lt2.true
 
 pub ask_good-requires : goal.ask_good-requires
 ask_good-requires c = record { long = sym (length-vertices _); two = c.if-v-lt2.false; most = c.if-v-gt-MOST_VERTICES.false }
 
 pub returns : goal.returns
 returns c =
-    let two = c.before in
-    let told = two.before in
-    let searched = told.before.before in
-    let few = searched.before in
-    good-why (rows _) _ _ _ few.before.if-source-ne0.false _ (sym (length-vertices _)) few.if-v-gt-MOST_VERTICES.false (sym searched.first_bad_number-bad.ensures ∙ told.in_default.is) two.if-v-lt2.false
+    good-why (rows _) _ _ _ c.if-source-ne0.false _ (sym (length-vertices _)) c.if-v-gt-MOST_VERTICES.false (sym c.first_bad_number-bad.ensures ∙ c.in_default.is) c.if-v-lt2.false
     c.ask_good.ensures

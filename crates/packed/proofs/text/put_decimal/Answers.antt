@@ -38,5 +38,5 @@ returns c =
     record {
       value = omega arith;
       upper_bound = omega (arith, short c);
-      out_after = c.put.ensures ∙ ap (λ (w : List ℕ). sets a.out-1.now a.at (w then a.end)) e;
+      out_after = c.put.ensures ∙ ap (λ (w : List ℕ). sets a.out.now a.at (w then a.end)) e;
     }

@@ -10,7 +10,7 @@ returns c =
     let d = c.put_decimal-done in
     let e = c.put_decimal-at in
     let f = c.put_closed in
-    let h = head a.count a.closed a.out-1.now a.at d.ensures.out_after d.ensures.value e.ensures.out_after e.ensures.value f.ensures.out_after f.ensures.value in
+    let h = head a.count a.closed a.out.now a.at d.ensures.out_after d.ensures.value e.ensures.out_after e.ensures.value f.ensures.out_after f.ensures.value in
     record {
       value = h.0;
       upper_bound = omega arith;

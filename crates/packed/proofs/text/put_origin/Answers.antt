@@ -12,7 +12,7 @@ returns-in-Span c =
     let a = c.args in
     let d = c.put_decimal in
     let is = c.origin-1.given in
-    let h = next_row a.out-1.now a.at (ascii "span" then space) (decimal_of is.0.0.0 then line_end) c.put.ensures refl d.ensures.out_after d.ensures.value in
+    let h = next_row a.out.now a.at (ascii "span" then space) (decimal_of is.0.0.0 then line_end) c.put.ensures refl d.ensures.out_after d.ensures.value in
     let both = rw is.1 (h.0, (omega arith, h.1)) in
     record {
       value = both.0;
@@ -26,7 +26,7 @@ returns-in-Connector c =
     let a = c.args in
     let d = c.put_decimal-in-Connector in
     let is = c.origin-in-Connector-1.given in
-    let h = next_row a.out-1.now a.at (ascii "connector" then space) (decimal_of is.0.0.0 then line_end) c.put-in-Connector.ensures refl d.ensures.out_after d.ensures.value in
+    let h = next_row a.out.now a.at (ascii "connector" then space) (decimal_of is.0.0.0 then line_end) c.put-in-Connector.ensures refl d.ensures.out_after d.ensures.value in
     let both = rw is.1 (h.0, (omega arith, h.1)) in
     record {
       value = both.0;

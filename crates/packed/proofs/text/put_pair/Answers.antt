@@ -6,4 +6,4 @@ use Rattle.packed.proofs.text.put_pair.Goals as goal
 pub returns : goal.returns
 returns c =
     let a = c.args in
-    pair a.a a.b a.out-1.now a.at c.put_hex.ensures c.put_hex-2.ensures
+    pair a.a a.b a.out.now a.at c.put_hex.ensures c.put_hex-2.ensures

@@ -13,6 +13,4 @@ returns-then-bytes-lt8 c = decoded-short _ _ _ c.if-bytes-lt8.true
 
 pub returns : goal.returns
 returns c =
-    let read = c.before.before.before in
-    let tested = read.before.before.before in
-    c.decode_by-2.ensures ∙ decoded-pointed _ _ _ tested.has_ratio.ensures read.if-not-has_ratio.false read.number_at-ratio.ensures
+    c.decode_by-2.ensures ∙ decoded-pointed _ _ _ c.has_ratio.ensures c.if-not-has_ratio.false c.number_at-ratio.ensures

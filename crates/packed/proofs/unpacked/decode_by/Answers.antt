@@ -12,7 +12,7 @@ use Rattle.packed.proofs.unpacked.decode_by.Goals as goal
 
 pub returns-then-not-well_formed : goal.returns-then-not-well_formed
 unfolding decoded_by
-returns-then-not-well_formed c = no _ _ _ (sym c.well_formed-2.ensures ∙ not-true _ c.if-not-well_formed.true) refl
+returns-then-not-well_formed c = no _ _ _ (sym c.well_formed-2.ensures ∙ c.if-not-well_formed.true) refl
 
 pub big_endian-header-requires : goal.big_endian-header-requires
 big_endian-header-requires c =

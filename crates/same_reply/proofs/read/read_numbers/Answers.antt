@@ -28,4 +28,4 @@ pub returns : goal.returns
 returns c =
     let a = c.args in
     writing_done c.loop-k.invariant c.loop-k-test.false
-    ∙ placed (numbers_at a.bytes.now a.i a.count) a.numbers-1.now (3 * a.count) (length-numbers a.bytes.now a.i a.count) (omega arith)
+    ∙ placed (numbers_at a.bytes.now a.i a.count) a.numbers.now (3 * a.count) (length-numbers a.bytes.now a.i a.count) (omega arith)

@@ -10,7 +10,7 @@ returns c =
     let a = c.args in
     let d = c.put_decimal-there in
     let e = c.put_decimal in
-    let h = next_row a.out-1.now a.at (decimal_of a.number then space) (decimal_of a.fields then line_end) d.ensures.out_after d.ensures.value e.ensures.out_after e.ensures.value in
+    let h = next_row a.out.now a.at (decimal_of a.number then space) (decimal_of a.fields then line_end) d.ensures.out_after d.ensures.value e.ensures.out_after e.ensures.value in
     record {
       value = h.0;
       upper_bound = omega arith;

@@ -16,7 +16,7 @@ returns c =
     let lines = lines_of a.count a.closed a.numbers.now a.flags.now a.count in
     let n = length-lines a.count a.closed a.numbers.now a.flags.now a.count in
     let e : h.result + 53 * a.count ≡ h.result + length lines = omega arith in
-    let r = next_row a.out-1.now a.at (head_of a.count a.closed) lines h.ensures.out_after h.ensures.value c.put_lines.ensures e in
+    let r = next_row a.out.now a.at (head_of a.count a.closed) lines h.ensures.out_after h.ensures.value c.put_lines.ensures e in
     record {
       value = r.0;
       upper_bound = omega arith;

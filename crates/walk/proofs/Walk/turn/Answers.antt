@@ -23,10 +23,10 @@ by-ruled : (w : Standing) (c : PlineVertex) (σ : Settings) →
     let next = offset_seg w.vertex c σ.offset in
     let j = cornered w.current next (pos_of w.vertex) σ (ruled_join w.current next (pos_of w.vertex) σ) in
     ◌≡◌ {A = Turn} (record {
-      span = span_move w.source-1.0 w.current w.entry.next_param j.current_end j.current_param;
-      connectors = connector_moves w.source-1.0 j;
+      span = span_move w.source.0 w.current w.entry.next_param j.current_end j.current_param;
+      connectors = connector_moves w.source.0 j;
       join = j;
-      walker = record { source = record { 0 = w.source-1.0 + 1 }; current = next; vertex = c; entry = forgotten j };
+      walker = record { source = record { 0 = w.source.0 + 1 }; current = next; vertex = c; entry = forgotten j };
     })
     (turn_to w c σ)
 unfolding turn_to connector_moves tip_moves tip_move connector_move

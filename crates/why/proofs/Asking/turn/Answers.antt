@@ -27,25 +27,15 @@ tip-tipped-requires c =
 
 pub step-whole-requires : goal.step-whole-requires
 step-whole-requires c =
-    let turn = c.before.before.before.before.before.before.before in
-    let start = turn.before.before.before.before.before in
     let e = ap (λ (n : Noted). n.pen.number.0) c.note-before.ensures in
     let f = note-number _ _ _ _ _ _ c.step-half.result c.step-half.ensures in
     let g = notes_number _ _ _ _ _ _ c.tip-tipped.result c.tip-tipped.ensures in
-    omega (arith, start.requires.number_bound, g, tip-one turn.turn-turned.result.join turn.turn-turned.result.connector-1)
+    omega (arith, c.requires.number_bound, g, tip-one c.turn-turned.result.join c.turn-turned.result.connector)
 
 pub returns : goal.returns
 returns c =
-    let both = c.before.before in
-    let tip = both.before in
-    let half = tip.before in
-    let before = half.before in
-    let bulging = before.before in
-    let bulge = bulging.before in
-    let turn = bulge.before.before.before in
-    let start = turn.before.before.before.before.before in
-    let t = turn.turn-turned.ensures in (
-      turn-asked _ _ _ _ start.args.self turn.turn-turned.result c.after-walk.result before.note-before.result half.step-half.result tip.tip-tipped.result both.step-whole.result t.0 t.4 bulge.bulge_by-bulge.ensures
-          bulging.bulging-span.ensures before.note-before.ensures half.step-half.ensures tip.tip-tipped.ensures both.step-whole.ensures c.after-walk.ensures.0 c.entry_after-entry.ensures,
+    let t = c.turn-turned.ensures in (
+      turn-asked _ _ _ _ c.args.self c.turn-turned.result c.after-walk.result c.note-before.result c.step-half.result c.tip-tipped.result c.step-whole.result t.0 t.4 c.bulge_by-bulge.ensures
+          c.bulging-span.ensures c.note-before.ensures c.step-half.ensures c.tip-tipped.ensures c.step-whole.ensures c.after-walk.ensures.0 c.entry_after-entry.ensures,
       c.after-walk.ensures.1 t.2,
     )

@@ -8,12 +8,9 @@ use Rattle.why.proofs.Note.step.Goals as goal
 
 pub returns-then-not-both : goal.returns-then-not-both
 returns-then-not-both c =
-    step-none _ _ _ _ _ _ c.step-stepped.result c.step-stepped.ensures c.both.ensures (not-true _ c.if-not-both.true)
+    step-none _ _ _ _ _ _ c.step-stepped.result c.step-stepped.ensures c.both.ensures c.if-not-both.true
 
 pub returns : goal.returns
 returns c =
-    let told = c.before.before in
-    let else = told.before.before in
-    let both = else.before in
-    rw (c.doubt.ensures, doubt-more, told.answer_with-answer.ensures)
-    (step-drawn _ _ _ _ _ _ both.before.before.step-stepped.result both.before.before.step-stepped.ensures both.both.ensures (not-false _ else.if-not-both.false))
+    rw (c.doubt.ensures, doubt-more, c.answer_with-answer.ensures)
+    (step-drawn _ _ _ _ _ _ c.step-stepped.result c.step-stepped.ensures c.both.ensures c.if-not-both.false)
