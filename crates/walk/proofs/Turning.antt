@@ -72,7 +72,7 @@ module _ (e : Float) where
   pub row-drawn : (pen : Pen) (ms : List Move) → Draws e pen ms (strokes_by 0 pen ms e) (pen_by pen ms e)
   unfolding strokes_by pen_by
   row-drawn pen [] = none-drawn pen
-  row-drawn pen (m ∷ ms) = both-drawn (one-drawn pen m) (row-drawn _ ms)
+  row-drawn pen (m ∷ ms) = both-drawn (one-drawn pen m) (row-drawn (step_of pen m e).pen ms)
 
 -- one row after another, of any walk
 pub strokes-both : (n : ℕ) (pen : Pen) (ms ns : List Move) (e : Float) → strokes_by n pen (ms ++ ns) e ≡ strokes_by n pen ms e ++ strokes_by n (pen_by pen ms e) ns e

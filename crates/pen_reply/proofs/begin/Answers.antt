@@ -22,10 +22,10 @@ settings_in-requires c = sized _ c.well_formed-2.ensures c.if-not-well_formed.fa
 pub returns-then-answer-ne0 : goal.returns-then-answer-ne0
 returns-then-answer-ne0 c =
     record {
-      prefix_len = rw (head_refused _ c.well_formed-2.ensures c.if-not-well_formed.false c.settings_in.ensures c.start-called-2.ensures c.if-answer-ne0.true) c.refused-then-answer-ne0.ensures.prefix_len;
-      written_value = rw (head_refused _ c.well_formed-2.ensures c.if-not-well_formed.false c.settings_in.ensures c.start-called-2.ensures c.if-answer-ne0.true) c.refused-then-answer-ne0.ensures.written_value;
-      text_after = rw (head_refused _ c.well_formed-2.ensures c.if-not-well_formed.false c.settings_in.ensures c.start-called-2.ensures c.if-answer-ne0.true) c.refused-then-answer-ne0.ensures.text_after;
-      bytes_value = rw (head_refused _ c.well_formed-2.ensures c.if-not-well_formed.false c.settings_in.ensures c.start-called-2.ensures c.if-answer-ne0.true) c.refused-then-answer-ne0.ensures.bytes_value;
+      prefix_len = rw (head_refused _ c.well_formed-2.ensures c.if-not-well_formed.false c.settings_in.ensures c.start-called-2.ensures c.if-answer-ne0.true) (c.refused-then-answer-ne0.ensures.prefix_len, (c.refused-then-answer-ne0.ensures.written_value, (c.refused-then-answer-ne0.ensures.text_after, c.refused-then-answer-ne0.ensures.place_value))).prefix_len;
+      written_value = rw (head_refused _ c.well_formed-2.ensures c.if-not-well_formed.false c.settings_in.ensures c.start-called-2.ensures c.if-answer-ne0.true) (c.refused-then-answer-ne0.ensures.prefix_len, (c.refused-then-answer-ne0.ensures.written_value, (c.refused-then-answer-ne0.ensures.text_after, c.refused-then-answer-ne0.ensures.place_value))).written_value;
+      text_after = rw (head_refused _ c.well_formed-2.ensures c.if-not-well_formed.false c.settings_in.ensures c.start-called-2.ensures c.if-answer-ne0.true) (c.refused-then-answer-ne0.ensures.prefix_len, (c.refused-then-answer-ne0.ensures.written_value, (c.refused-then-answer-ne0.ensures.text_after, c.refused-then-answer-ne0.ensures.place_value))).text_after;
+      bytes_value = rw (head_refused _ c.well_formed-2.ensures c.if-not-well_formed.false c.settings_in.ensures c.start-called-2.ensures c.if-answer-ne0.true) (c.refused-then-answer-ne0.ensures.prefix_len, (c.refused-then-answer-ne0.ensures.written_value, (c.refused-then-answer-ne0.ensures.text_after, c.refused-then-answer-ne0.ensures.place_value))).bytes_value;
     }
 
 pub returns : goal.returns

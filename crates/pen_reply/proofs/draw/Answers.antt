@@ -7,10 +7,10 @@ use Rattle.pen_reply.proofs.draw.Goals as goal
 pub returns-then-answer-ne0 : goal.returns-then-answer-ne0
 returns-then-answer-ne0 c =
     record {
-      prefix_len = rw (draw-refused _ _ c.numbers_in-source.ensures c.draw-called.ensures c.if-answer-ne0.true) c.refused.ensures.prefix_len;
-      written_value = rw (draw-refused _ _ c.numbers_in-source.ensures c.draw-called.ensures c.if-answer-ne0.true) c.refused.ensures.written_value;
-      text_after = rw (draw-refused _ _ c.numbers_in-source.ensures c.draw-called.ensures c.if-answer-ne0.true) c.refused.ensures.text_after;
-      bytes_value = rw (draw-refused _ _ c.numbers_in-source.ensures c.draw-called.ensures c.if-answer-ne0.true) c.refused.ensures.bytes_value;
+      prefix_len = rw (draw-refused _ _ c.numbers_in-source.ensures c.draw-called.ensures c.if-answer-ne0.true) (c.refused.ensures.prefix_len, (c.refused.ensures.written_value, (c.refused.ensures.text_after, c.refused.ensures.place_value))).prefix_len;
+      written_value = rw (draw-refused _ _ c.numbers_in-source.ensures c.draw-called.ensures c.if-answer-ne0.true) (c.refused.ensures.prefix_len, (c.refused.ensures.written_value, (c.refused.ensures.text_after, c.refused.ensures.place_value))).written_value;
+      text_after = rw (draw-refused _ _ c.numbers_in-source.ensures c.draw-called.ensures c.if-answer-ne0.true) (c.refused.ensures.prefix_len, (c.refused.ensures.written_value, (c.refused.ensures.text_after, c.refused.ensures.place_value))).text_after;
+      bytes_value = rw (draw-refused _ _ c.numbers_in-source.ensures c.draw-called.ensures c.if-answer-ne0.true) (c.refused.ensures.prefix_len, (c.refused.ensures.written_value, (c.refused.ensures.text_after, c.refused.ensures.place_value))).bytes_value;
     }
 
 pub returns : goal.returns

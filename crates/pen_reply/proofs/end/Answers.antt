@@ -7,10 +7,10 @@ use Rattle.pen_reply.proofs.end.Goals as goal
 pub returns-then-answer-ne0 : goal.returns-then-answer-ne0
 returns-then-answer-ne0 c =
     record {
-      prefix_len = rw (end_refused _ c.end-called.ensures c.if-answer-ne0.true) c.refused.ensures.prefix_len;
-      written_value = rw (end_refused _ c.end-called.ensures c.if-answer-ne0.true) c.refused.ensures.written_value;
-      text_after = rw (end_refused _ c.end-called.ensures c.if-answer-ne0.true) c.refused.ensures.text_after;
-      job_value = rw (end_refused _ c.end-called.ensures c.if-answer-ne0.true) c.refused.ensures.job_value;
+      prefix_len = rw (end_refused _ c.end-called.ensures c.if-answer-ne0.true) (c.refused.ensures.prefix_len, (c.refused.ensures.written_value, (c.refused.ensures.text_after, c.refused.ensures.place_value))).prefix_len;
+      written_value = rw (end_refused _ c.end-called.ensures c.if-answer-ne0.true) (c.refused.ensures.prefix_len, (c.refused.ensures.written_value, (c.refused.ensures.text_after, c.refused.ensures.place_value))).written_value;
+      text_after = rw (end_refused _ c.end-called.ensures c.if-answer-ne0.true) (c.refused.ensures.prefix_len, (c.refused.ensures.written_value, (c.refused.ensures.text_after, c.refused.ensures.place_value))).text_after;
+      job_value = rw (end_refused _ c.end-called.ensures c.if-answer-ne0.true) (c.refused.ensures.prefix_len, (c.refused.ensures.written_value, (c.refused.ensures.text_after, c.refused.ensures.place_value))).job_value;
     }
 
 pub returns : goal.returns

@@ -15,9 +15,9 @@ returns-then-i-answer c =
     let a = c.args in
     let e = at-segment a.answer (vertices_of a.vertices.now) a.flags.now a.origins.now a.i c.if-i-answer.true c.vertex_at-v.ensures c.of_code.ensures in
     record {
-      value = rw (← e) c.put_segment.ensures.value;
-      upper_bound = rw (← e) c.put_segment.ensures.upper_bound;
-      out_after = rw (← e) c.put_segment.ensures.out_after;
+      value = rw (← e) (c.put_segment.ensures.value, (c.put_segment.ensures.upper_bound, c.put_segment.ensures.out_after)).value;
+      upper_bound = rw (← e) (c.put_segment.ensures.value, (c.put_segment.ensures.upper_bound, c.put_segment.ensures.out_after)).upper_bound;
+      out_after = rw (← e) (c.put_segment.ensures.value, (c.put_segment.ensures.upper_bound, c.put_segment.ensures.out_after)).out_after;
     }
 
 pub returns-then-i-answer-2 : goal.returns-then-i-answer-2

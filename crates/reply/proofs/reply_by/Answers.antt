@@ -32,7 +32,7 @@ returns-in-Malformed c =
 pub returns-in-Job : goal.returns-in-Job
 returns-in-Job c =
     record {
-      prefix_len = rw (worked _ _ _ _ c.decode-job.ensures c.in-Job.is) c.work.ensures.prefix_len;
-      value = rw (worked _ _ _ _ c.decode-job.ensures c.in-Job.is) c.work.ensures.value;
-      text_after = rw (worked _ _ _ _ c.decode-job.ensures c.in-Job.is) c.work.ensures.text_after;
+      prefix_len = rw (worked _ _ _ _ c.decode-job.ensures c.in-Job.is) (c.work.ensures.prefix_len, (c.work.ensures.value, c.work.ensures.text_after)).prefix_len;
+      value = rw (worked _ _ _ _ c.decode-job.ensures c.in-Job.is) (c.work.ensures.prefix_len, (c.work.ensures.value, c.work.ensures.text_after)).value;
+      text_after = rw (worked _ _ _ _ c.decode-job.ensures c.in-Job.is) (c.work.ensures.prefix_len, (c.work.ensures.value, c.work.ensures.text_after)).text_after;
     }

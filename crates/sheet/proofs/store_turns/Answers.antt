@@ -22,21 +22,21 @@ loop-turn-init c =
 
 pub vertex_in-to-requires : goal.vertex_in-to-requires
 vertex_in-to-requires c =
-    omega (arith, c.loop-turn.invariant.1.below, c.requires.1.long)
+    omega (arith, c.loop-turn.invariant.1.below, c.requires.starts.long)
 
 pub next_place-next-requires : goal.next_place-next-requires
 next_place-next-requires c = c.loop-turn.invariant.1.below
 
 pub chord_to-ahead-requires : goal.chord_to-ahead-requires
 chord_to-ahead-requires c =
-    omega (arith, c.next_place-next.ensures.1, c.requires.1.long)
+    omega (arith, c.next_place-next.ensures.1, c.requires.starts.long)
 
 pub sweep_from-sweep-requires : goal.sweep_from-sweep-requires
 sweep_from-sweep-requires c =
     let on = c.loop-turn.invariant.1 in
     record {
       memo = on.memo;
-      k_lt_stop = (on.below, omega (arith, c.requires.1.long));
+      k_lt_stop = (on.below, omega (arith, c.requires.starts.long));
     }
 
 pub offset_seg-segment-requires : goal.offset_seg-segment-requires
@@ -81,7 +81,7 @@ store_turn-left-requires c =
 
 pub overflow_step-turn : goal.overflow_step-turn
 overflow_step-turn c =
-    omega (arith, c.loop-turn-test.true, c.requires.1.turns.sources)
+    omega (arith, c.loop-turn-test.true, c.requires.starts.turns.sources)
 
 pub loop-turn-smaller : goal.loop-turn-smaller
 loop-turn-smaller c =

@@ -33,7 +33,7 @@ unfolding turn_to connector_moves tip_moves tip_move connector_move
 by-ruled w c σ = rw (← corner_forgets w.current (offset_seg w.vertex c σ.offset) (pos_of w.vertex) σ)
 
 pub analyze_join-joined-requires : goal.analyze_join-joined-requires
-analyze_join-joined-requires c = let pre = c.requires in (pre.1.0.0.marked, pre.1.1.marked)
+analyze_join-joined-requires c = let pre = c.requires in (pre.fit.0.marked, pre.carries.marked)
 
 pub outer_corner-boundary-requires : goal.outer_corner-boundary-requires
 outer_corner-boundary-requires c = c.requires.fit.1
@@ -61,7 +61,7 @@ returns c =
         bulge,
         corner.ensures,
         joined.ensures.boundary,
-        c.requires.1.0.0.seen,
+        c.requires.fit.0.seen,
         segment.full,
         c.pos-shared.ensures,
       )),
