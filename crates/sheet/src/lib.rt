@@ -110,7 +110,7 @@ fn put_flag(
     number: OutputSegment,
 )
     requires { (k < length flags.old) × (j < length indexes.old) }
-    ensures { (flags.new ≡ set flags.old k (bit invalid)) × (indexes.new ≡ when invalid give set indexes.old j number.0 else (λ x. x.now) indexes.entry) }
+    ensures { (flags.new ≡ set flags.old k (bit invalid)) × (indexes.new ≡ when invalid give set indexes.old j number.0 else indexes.old) }
 {
     if invalid {
         flags[k] = 1;

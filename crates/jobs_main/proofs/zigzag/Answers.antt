@@ -10,6 +10,3 @@ bounds-source-i-in-loop-i-2 c = simp length-set (omega arith)
 
 pub loop-i-preserved : goal.loop-i-preserved
 loop-i-preserved c = simp length-set (omega arith)
-
-pub shape_of-source : goal.shape_of-source
-shape_of-source c = c.loop-i.invariant.2

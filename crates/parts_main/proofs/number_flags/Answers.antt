@@ -8,6 +8,3 @@ use Rattle.parts_main.proofs.number_flags.Goals as goal
 
 pub loop-i-preserved : goal.loop-i-preserved
 loop-i-preserved c = simp length-set (omega arith)
-
-pub shape_of-flags : goal.shape_of-flags
-shape_of-flags c = c.loop-i.invariant.2

@@ -8,6 +8,3 @@ use Rattle.parts_main.proofs.read_origins.Goals as goal
 
 pub loop-i-preserved : goal.loop-i-preserved
 loop-i-preserved c = simp length-set (omega arith)
-
-pub shape_of-origins : goal.shape_of-origins
-shape_of-origins c = c.loop-i.invariant.2

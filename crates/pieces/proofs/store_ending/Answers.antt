@@ -11,7 +11,7 @@ store_stroke-places-requires c = let pre = c.requires in (room_fewer (omega (ari
 pub put_last-requires : goal.put_last-requires
 put_last-requires c =
     let a = c.args in
-    last-place a.ending a.first c.store_stroke-places.result _ _ _ _ _ _ _ _ c.requires.0 c.requires.1 c.store_stroke-places.ensures c.store_stroke-places.auto.0
+    last-place a.ending a.first c.store_stroke-places.result _ _ _ _ _ _ _ _ c.requires.0 c.requires.1 c.store_stroke-places.ensures c.store_stroke-places.auto.vertices
 
 pub returns-then-ending : goal.returns-then-ending
 returns-then-ending c =

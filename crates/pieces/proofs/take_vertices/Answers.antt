@@ -27,19 +27,7 @@ pub loop-k-preserved : goal.loop-k-preserved
 loop-k-preserved c =
     let inv = c.loop-k.invariant in
     let t = c.take_vertex-taken in
-    (t.auto.0 ∙ inv.0, t.auto.1.0 ∙ inv.1, t.auto.1.1.0 ∙ inv.2, t.auto.1.1.1.0 ∙ inv.3, going_one inv.4 _ c.requires.0 c.loop-k-test.true c.vertex_at-c.ensures t.ensures)
-
-pub shape_of-vertices : goal.shape_of-vertices
-shape_of-vertices c = c.loop-k.invariant.0
-
-pub shape_of-flags : goal.shape_of-flags
-shape_of-flags c = c.loop-k.invariant.1
-
-pub shape_of-indexes : goal.shape_of-indexes
-shape_of-indexes c = c.loop-k.invariant.2
-
-pub shape_of-origins : goal.shape_of-origins
-shape_of-origins c = c.loop-k.invariant.3
+    (t.auto.vertices ∙ inv.0, t.auto.flags ∙ inv.1, t.auto.indexes ∙ inv.2, t.auto.origins ∙ inv.3, going_one inv.4 _ c.requires.0 c.loop-k-test.true c.vertex_at-c.ensures t.ensures)
 
 pub returns : goal.returns
 returns c = going_done c.loop-k.invariant.4 c.requires.0 c.loop-k-test.false

@@ -6,7 +6,7 @@ use Rattle.sheet.proofs.Writing.{Clearing, writing_none, clearing_turn, clearing
 use Rattle.sheet.proofs.clear_flags.Given as goal
 
 abbrev pub invariant-loop-j : goal.invariant-loop-j
-invariant-loop-j l = Clearing 0 l.flags.from l.flags.count l.flags.initial.flags l.j l.flags
+invariant-loop-j l = Clearing 0 l.from l.count l.initial.flags l.j l.flags
 
 abbrev pub decreases-loop-j : goal.decreases-loop-j
-decreases-loop-j l = l.flags.count - l.j
+decreases-loop-j l = l.count - l.j

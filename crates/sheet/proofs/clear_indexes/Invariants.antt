@@ -6,7 +6,7 @@ use Rattle.sheet.proofs.Writing.{Clearing, writing_none, clearing_turn, clearing
 use Rattle.sheet.proofs.clear_indexes.Given as goal
 
 abbrev pub invariant-loop-j : goal.invariant-loop-j
-invariant-loop-j l = Clearing 0 l.indexes.from l.indexes.count l.indexes.initial.indexes l.j l.indexes
+invariant-loop-j l = Clearing 0 l.from l.count l.initial.indexes l.j l.indexes
 
 abbrev pub decreases-loop-j : goal.decreases-loop-j
-decreases-loop-j l = l.indexes.count - l.j
+decreases-loop-j l = l.count - l.j

@@ -23,21 +23,12 @@ pub loop-j-preserved : goal.loop-j-preserved
 loop-j-preserved c =
     let l = c.loop-j.invariant in
     let p = c.put_vertex in
-    let k = p.auto.1 in (
+    (
       rw (p.ensures, l.3) (clearing_turn blank l.0 c.loop-j-test.true c.requires),
       ap (λ (h : Held). h.beyond) p.ensures ∙ l.1,
-      record { x = k.0 ∙ l.2.x; y = k.1.0 ∙ l.2.y; bulge = k.1.1.0 ∙ l.2.bulge },
+      record { x = p.auto.outxs ∙ l.2.x; y = p.auto.outys ∙ l.2.y; bulge = p.auto.outbulges ∙ l.2.bulge },
       l.3,
     )
-
-pub shape_of-outxs : goal.shape_of-outxs
-shape_of-outxs c = c.loop-j.invariant.2.x
-
-pub shape_of-outys : goal.shape_of-outys
-shape_of-outys c = c.loop-j.invariant.2.y
-
-pub shape_of-outbulges : goal.shape_of-outbulges
-shape_of-outbulges c = c.loop-j.invariant.2.bulge
 
 pub returns : goal.returns
 returns c =

@@ -14,15 +14,14 @@ copy_vertices-requires c = let pre = c.requires in (pre.0.long, source_fits _ _ 
 
 pub wipe-requires : goal.wipe-requires
 wipe-requires c =
-    let k = c.copy_vertices.auto.1.1.1.1.1 in
     let pre = c.requires in
-    source-within _ _ _ _ _ pre.0 pre.1 pre.2 _ (held_alike _ _ _ _ _ _ _ (record { x = k.0; y = k.1.0; bulge = k.1.1.0 }))
+    source-within _ _ _ _ _ pre.0 pre.1 pre.2 _ (held_alike _ _ _ _ _ _ _ (record { x = c.copy_vertices.auto.outxs; y = c.copy_vertices.auto.outys; bulge = c.copy_vertices.auto.outbulges }))
 
 pub put_spans-requires : goal.put_spans-requires
 put_spans-requires c =
     let few = segments-most c.args.closed c.args.v in
     let n = c.segment_count-count.ensures in
-    let same = c.wipe.auto.1.1.1.1.1.1.0 in
+    let same = c.wipe.auto.origins in
     (omega (arith, c.requires.0.origins, c.requires.1, origins-length c.args.origins.now), omega (arith, c.requires.0.most))
 
 pub overflow_cast-result : goal.overflow_cast-result

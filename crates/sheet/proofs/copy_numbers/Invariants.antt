@@ -10,7 +10,7 @@ use Rattle.sheet.proofs.Writing.{Writing, writing_none, copying_turn, copying_do
 use Rattle.sheet.proofs.copy_numbers.Given as goal
 
 abbrev pub invariant-loop-i : goal.invariant-loop-i
-invariant-loop-i l = Writing (take l.numbers.count l.numbers.source) 0 l.numbers.count l.numbers.initial.numbers l.i l.numbers
+invariant-loop-i l = Writing (take l.count l.source) 0 l.count l.initial.numbers l.i l.numbers
 
 abbrev pub decreases-loop-i : goal.decreases-loop-i
-decreases-loop-i l = l.numbers.count - l.i
+decreases-loop-i l = l.count - l.i

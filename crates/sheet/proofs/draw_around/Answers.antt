@@ -25,9 +25,8 @@ store_turns-sheet-requires c =
 pub draw_closing-requires : goal.draw_closing-requires
 draw_closing-requires c =
     let t = c.store_turns-sheet in
-    let k = t.auto.1.1.1.1.1.1.1.1.1.1.1 in
     let pre = c.requires in
-    (around-lasts _ _ _ _ _ _ c.args.led t.result pre.0 (all_alike _ _ _ _ _ _ _ _ _ _ _ _ _ (record { x = k.0; y = k.1.0; bulge = k.1.1.0 }) k.1.1.1.0 k.1.1.1.1.0 k.1.1.1.1.1.0) pre.1 t.ensures.origins_after, λ z. pre.0.told ∙ pre.1.tipped z)
+    (around-lasts _ _ _ _ _ _ c.args.led t.result pre.0 (all_alike _ _ _ _ _ _ _ _ _ _ _ _ _ (record { x = t.auto.outxs; y = t.auto.outys; bulge = t.auto.outbulges }) t.auto.flags t.auto.indexes t.auto.origins) pre.1 t.ensures.origins_after, λ z. pre.0.told ∙ pre.1.tipped z)
 
 pub returns : goal.returns
 returns c =

@@ -31,10 +31,9 @@ store_turns-led-requires c =
 pub draw_around-requires : goal.draw_around-requires
 draw_around-requires c =
     let start = c.before.before.before.before.before.before.before.before.before.before.before.before.before.before.before.before.before.before.before.before.before.before.before.before.before.before.before.before.before.before.before.before.before.before.before.before in let t = c.store_turns-led in
-    let k = t.auto.1.1.1.1.1.1.1.1.1.1.1 in
     let first = c.standing-first.ensures in
     let start = start in (
-      drawable_alike c.requires (all_alike _ _ _ _ _ _ _ _ _ _ _ _ _ (record { x = k.0; y = k.1.0; bulge = k.1.1.0 }) k.1.1.1.0 k.1.1.1.1.0 k.1.1.1.1.1.0),
+      drawable_alike c.requires (all_alike _ _ _ _ _ _ _ _ _ _ _ _ _ (record { x = t.auto.outxs; y = t.auto.outys; bulge = t.auto.outbulges }) t.auto.flags t.auto.indexes t.auto.origins),
       closed-entered c.args.settings _ _ c.args.room c.args.pointed _ t.result c.requires (t.ensures.origins_after ∙ rw (first.0, first.2, c.vertex_in.ensures)) t.ensures.fit,
     )
 

@@ -18,25 +18,21 @@ store_closing-places-requires c = let pre = c.requires in
 pub overflow_cast-result : goal.overflow_cast-result
 overflow_cast-result c =
     let all = c.store_closing-places in
-    let k = all.auto.1 in
-    let w = closing-within _ _ _ _ all.result c.requires.0 (all_alike _ _ _ _ _ _ _ _ _ _ _ _ _ (record { x = k.0; y = k.1.0; bulge = k.1.1.0 }) k.1.1.1.0 k.1.1.1.1.0 k.1.1.1.1.1.0) all.ensures in
+    let w = closing-within _ _ _ _ all.result c.requires.0 (all_alike _ _ _ _ _ _ _ _ _ _ _ _ _ (record { x = all.auto.outxs; y = all.auto.outys; bulge = all.auto.outbulges }) all.auto.flags all.auto.indexes all.auto.origins) all.ensures in
     omega (arith, w.from-flag, w.small)
 
 pub overflow_cast-result-2 : goal.overflow_cast-result-2
 overflow_cast-result-2 c =
     let all = c.store_closing-places in
-    let k = all.auto.1 in
-    let w = closing-within _ _ _ _ all.result c.requires.0 (all_alike _ _ _ _ _ _ _ _ _ _ _ _ _ (record { x = k.0; y = k.1.0; bulge = k.1.1.0 }) k.1.1.1.0 k.1.1.1.1.0 k.1.1.1.1.1.0) all.ensures in
+    let w = closing-within _ _ _ _ all.result c.requires.0 (all_alike _ _ _ _ _ _ _ _ _ _ _ _ _ (record { x = all.auto.outxs; y = all.auto.outys; bulge = all.auto.outbulges }) all.auto.flags all.auto.indexes all.auto.origins) all.ensures in
     omega (arith, w.from-index, w.small)
 
 pub finish-requires : goal.finish-requires
 finish-requires c =
     let all = c.store_closing-places in
-    let k = all.auto.1 in
-    closing-within _ _ _ _ all.result c.requires.0 (all_alike _ _ _ _ _ _ _ _ _ _ _ _ _ (record { x = k.0; y = k.1.0; bulge = k.1.1.0 }) k.1.1.1.0 k.1.1.1.1.0 k.1.1.1.1.1.0) all.ensures
+    closing-within _ _ _ _ all.result c.requires.0 (all_alike _ _ _ _ _ _ _ _ _ _ _ _ _ (record { x = all.auto.outxs; y = all.auto.outys; bulge = all.auto.outbulges }) all.auto.flags all.auto.indexes all.auto.origins) all.ensures
 
 pub returns : goal.returns
 returns c =
     let all = c.store_closing-places in
-    let k = all.auto.1 in
-    c.finish.ensures ∙ closing-done _ _ _ _ all.result c.requires.0 (all_alike _ _ _ _ _ _ _ _ _ _ _ _ _ (record { x = k.0; y = k.1.0; bulge = k.1.1.0 }) k.1.1.1.0 k.1.1.1.1.0 k.1.1.1.1.1.0) all.ensures
+    c.finish.ensures ∙ closing-done _ _ _ _ all.result c.requires.0 (all_alike _ _ _ _ _ _ _ _ _ _ _ _ _ (record { x = all.auto.outxs; y = all.auto.outys; bulge = all.auto.outbulges }) all.auto.flags all.auto.indexes all.auto.origins) all.ensures

@@ -29,9 +29,8 @@ store_move-last-requires c =
 pub finish_open-requires : goal.finish_open-requires
 finish_open-requires c =
     let last = c.store_move-last in
-    let k = last.auto.1 in
     let few = drawn-few 0 (step_of c.args.sheet.walk.pen c.span_to-span.result c.args.eps) in
-    last_within _ 2 _ _ last.result.places _ c.requires (all_alike _ _ _ _ _ _ _ _ _ _ _ _ _ (record { x = k.0; y = k.1.0; bulge = k.1.1.0 }) k.1.1.1.0 k.1.1.1.1.0 k.1.1.1.1.1.0)
+    last_within _ 2 _ _ last.result.places _ c.requires (all_alike _ _ _ _ _ _ _ _ _ _ _ _ _ (record { x = last.auto.outxs; y = last.auto.outys; bulge = last.auto.outbulges }) last.auto.flags last.auto.indexes last.auto.origins)
     last.ensures.origins_after (omega (arith, few)) (omega (arith, few))
 
 pub returns : goal.returns

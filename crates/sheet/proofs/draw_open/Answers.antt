@@ -31,8 +31,7 @@ store_turns-sheet-requires c =
 pub draw_last-requires : goal.draw_last-requires
 draw_last-requires c =
     let t = c.store_turns-sheet in
-    let k = t.auto.1.1.1.1.1.1.1.1.1.1.1 in
-    first-lasts _ _ _ _ _ _ _ c.standing-first.result t.result c.requires (all_alike _ _ _ _ _ _ _ _ _ _ _ _ _ (record { x = k.0; y = k.1.0; bulge = k.1.1.0 }) k.1.1.1.0 k.1.1.1.1.0 k.1.1.1.1.1.0) c.standing-first.ensures t.ensures.origins_after
+    first-lasts _ _ _ _ _ _ _ c.standing-first.result t.result c.requires (all_alike _ _ _ _ _ _ _ _ _ _ _ _ _ (record { x = t.auto.outxs; y = t.auto.outys; bulge = t.auto.outbulges }) t.auto.flags t.auto.indexes t.auto.origins) c.standing-first.ensures t.ensures.origins_after
 
 pub returns : goal.returns
 returns c =

@@ -24,8 +24,7 @@ put_vertex-requires c = let p = c.requires in omega (arith, p.from-vertex, p.ver
 pub finish-requires : goal.finish-requires
 finish-requires c =
     let p = c.requires in
-    let k = c.put_vertex.auto.1 in
-    let long : Long _ _ _ _ _ _ = record { x = k.0; y = k.1.0; bulge = k.1.1.0 } in
+    let long : Long _ _ _ _ _ _ = record { x = c.put_vertex.auto.outxs; y = c.put_vertex.auto.outys; bulge = c.put_vertex.auto.outbulges } in
     record { small = p.small; from-vertex = p.from-vertex; from-flag = p.from-flag; from-index = p.from-index; vertices = still_fits p.vertices (held_alike _ _ _ _ _ _ _ long); flags = p.flags; indexes = p.indexes; origins = p.origins }
 
 pub returns : goal.returns

@@ -22,8 +22,5 @@ loop-k-preserved c =
     let l = c.loop-k in
     spanned_turn _ _ _ l.invariant c.loop-k-test.true c.requires.0 c.put_origin.ensures
 
-pub shape_of-origins : goal.shape_of-origins
-shape_of-origins c = lent_alike _ _ c.loop-k.invariant.long
-
 pub returns : goal.returns
 returns c = spanned_done _ _ c.loop-k.invariant c.loop-k-test.false

@@ -7,7 +7,7 @@ use Rattle.sheet.proofs.Origins.{Spanned, spanned_none, spanned_turn, spanned_do
 use Rattle.sheet.proofs.put_spans.Given as goal
 
 abbrev pub invariant-loop-k : goal.invariant-loop-k
-invariant-loop-k l = Spanned l.origins.count l.origins.initial.origins l.k l.origins
+invariant-loop-k l = Spanned l.count l.initial.origins l.k l.origins
 
 abbrev pub decreases-loop-k : goal.decreases-loop-k
-decreases-loop-k l = l.origins.count - l.k
+decreases-loop-k l = l.count - l.k

@@ -27,10 +27,10 @@ put_origin-requires c =
     (omega (arith, room.origins, origins-length c.args.origins.now), c.requires.1)
 
 pub overflow_add-result : goal.overflow_add-result
-overflow_add-result = add-t31
+overflow_add-result c = let room = c.requires.0 c.if-not-drawn.false in omega (arith, room.flags, c.well_formed.1.1.1.1.0)
 
 pub overflow_add-result-2 : goal.overflow_add-result-2
-overflow_add-result-2 = add-t33
+overflow_add-result-2 c = let room = c.requires.0 c.if-not-drawn.false in omega (arith, room.indexes, c.well_formed.1.1.1.1.1.0, byte_small c.is_invalid-invalid.result)
 
 pub returns : goal.returns
 unfolding stored

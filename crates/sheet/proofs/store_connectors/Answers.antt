@@ -21,30 +21,6 @@ store_move-requires c =
       pre.coded.0,
     )
 
-pub shape_of-outxs : goal.shape_of-outxs
-shape_of-outxs c =
-    c.store_move.auto.1.0 ∙ c.store_tip-tipped.auto.1.0
-
-pub shape_of-outys : goal.shape_of-outys
-shape_of-outys c =
-    c.store_move.auto.1.1.0 ∙ c.store_tip-tipped.auto.1.1.0
-
-pub shape_of-outbulges : goal.shape_of-outbulges
-shape_of-outbulges c =
-    c.store_move.auto.1.1.1.0 ∙ c.store_tip-tipped.auto.1.1.1.0
-
-pub shape_of-flags : goal.shape_of-flags
-shape_of-flags c =
-    c.store_move.auto.1.1.1.1.0 ∙ c.store_tip-tipped.auto.1.1.1.1.0
-
-pub shape_of-indexes : goal.shape_of-indexes
-shape_of-indexes c =
-    c.store_move.auto.1.1.1.1.1.0 ∙ c.store_tip-tipped.auto.1.1.1.1.1.0
-
-pub shape_of-origins : goal.shape_of-origins
-shape_of-origins c =
-    c.store_move.auto.1.1.1.1.1.1.0 ∙ c.store_tip-tipped.auto.1.1.1.1.1.1.0
-
 pub returns : goal.returns
 returns c =
     let tipped = c.store_tip-tipped in

@@ -16,10 +16,9 @@ pub returns-then-not-both : goal.returns-then-not-both
 unfolding strokes_by pen_by stores
 returns-then-not-both c =
     let none = unpointed _ _ c.requires.coded.1 (sym (c.both.ensures ∙ ap (λ (b : Bool). c.args.pointed and b) c.is_pointed.ensures) ∙ c.if-not-both.true) in
-    let both = rw (tip-none c.args.join c.args.connector none) (refl, refl) in
     record {
-      origins_after = both.0;
-      pen_value = both.1;
+      origins_after = rw (tip-none c.args.join c.args.connector none) refl;
+      pen_value = rw (tip-none c.args.join c.args.connector none) refl;
     }
 
 pub store_move-requires : goal.store_move-requires
@@ -36,8 +35,7 @@ returns c =
     let end = c.store_move in
     let tip = c.to_tip-tip.ensures in
     let some = sym c.is_pointed.ensures ∙ ((both_pass _ _).0 (sym c.both.ensures ∙ c.if-not-both.false)).1 in
-    let both = rw (tip-some c.args.join c.args.connector some, move_row) (end.ensures.origins_after ∙ rw tip, end.ensures.pen_value.0 ∙ rw tip) in
     record {
-      origins_after = both.0;
-      pen_value = both.1;
+      origins_after = rw (tip-some c.args.join c.args.connector some, move_row) (end.ensures.origins_after ∙ rw tip);
+      pen_value = rw (tip-some c.args.join c.args.connector some) (end.ensures.pen_value.0 ∙ rw tip);
     }

@@ -18,30 +18,6 @@ store_connectors-whole-requires c =
       coded = (pre.coded.1, pre.coded.2);
     }
 
-pub shape_of-outxs : goal.shape_of-outxs
-shape_of-outxs c =
-    c.store_connectors-whole.auto.1.0 ∙ c.store_move-half.auto.1.0
-
-pub shape_of-outys : goal.shape_of-outys
-shape_of-outys c =
-    c.store_connectors-whole.auto.1.1.0 ∙ c.store_move-half.auto.1.1.0
-
-pub shape_of-outbulges : goal.shape_of-outbulges
-shape_of-outbulges c =
-    c.store_connectors-whole.auto.1.1.1.0 ∙ c.store_move-half.auto.1.1.1.0
-
-pub shape_of-flags : goal.shape_of-flags
-shape_of-flags c =
-    c.store_connectors-whole.auto.1.1.1.1.0 ∙ c.store_move-half.auto.1.1.1.1.0
-
-pub shape_of-indexes : goal.shape_of-indexes
-shape_of-indexes c =
-    c.store_connectors-whole.auto.1.1.1.1.1.0 ∙ c.store_move-half.auto.1.1.1.1.1.0
-
-pub shape_of-origins : goal.shape_of-origins
-shape_of-origins c =
-    c.store_connectors-whole.auto.1.1.1.1.1.1.0 ∙ c.store_move-half.auto.1.1.1.1.1.1.0
-
 pub returns : goal.returns
 returns c =
     let half = c.store_move-half in

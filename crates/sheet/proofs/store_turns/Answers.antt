@@ -69,7 +69,7 @@ store_turn-left-requires c =
     record {
       rooms = (
         (λ z. room-turn on _ turn.result t.0 w.result taken w.ensures.1
-            (all_alike _ _ _ _ _ _ _ _ _ _ _ _ _ (record { x = w.auto.1.1.0; y = w.auto.1.1.1.0; bulge = w.auto.1.1.1.1.0 }) refl refl refl) (sym t.4 ∙ z)),
+            (all_alike _ _ _ _ _ _ _ _ _ _ _ _ _ (record { x = w.auto.outxs; y = w.auto.outys; bulge = w.auto.outbulges }) refl refl refl) (sym t.4 ∙ z)),
         rw t.3 (number-turn on taken),
       );
       coded = (
@@ -94,7 +94,7 @@ loop-turn-preserved c =
     let t = turn.ensures in
     let d = c.store_turn-left in
     let w = c.write-far in
-    let long : Long _ _ _ _ _ _ = record { x = d.auto.1.0 ∙ w.auto.1.1.0; y = d.auto.1.1.0 ∙ w.auto.1.1.1.0; bulge = d.auto.1.1.1.0 ∙ w.auto.1.1.1.1.0 } in
+    let long : Long _ _ _ _ _ _ = record { x = d.auto.outxs ∙ w.auto.outxs; y = d.auto.outys ∙ w.auto.outys; bulge = d.auto.outbulges ∙ w.auto.outbulges } in
     let first = l.invariant.0 in (
       record { x = long.x ∙ first.x; y = long.y ∙ first.y; bulge = long.bulge ∙ first.bulge },
       walking_turn l.invariant.1 turn.result c.loop-turn-test.true
@@ -113,34 +113,13 @@ loop-turn-preserved c =
             after = c.after-walk.ensures.0;
           })
           c.vertex_in-to.ensures (c.after-walk.ensures.1 t.2)
-          (all_alike _ _ _ _ _ _ _ _ _ _ _ _ _ long d.auto.1.1.1.1.0 d.auto.1.1.1.1.1.0 d.auto.1.1.1.1.1.1.0)
+          (all_alike _ _ _ _ _ _ _ _ _ _ _ _ _ long d.auto.flags d.auto.indexes d.auto.origins)
           c.next_place-next.ensures c.chord_to-ahead.ensures c.sweep_from-sweep.ensures.1,
     )
 
 pub write-places-requires : goal.write-places-requires
 write-places-requires c =
     (c.begin.ensures, room-later c.loop-turn.invariant.1)
-
-pub shape_of-outxs : goal.shape_of-outxs
-shape_of-outxs c =
-    c.write-places.auto.1.1.0 ∙ c.loop-turn.invariant.0.x
-
-pub shape_of-outys : goal.shape_of-outys
-shape_of-outys c =
-    c.write-places.auto.1.1.1.0 ∙ c.loop-turn.invariant.0.y
-
-pub shape_of-outbulges : goal.shape_of-outbulges
-shape_of-outbulges c =
-    c.write-places.auto.1.1.1.1.0 ∙ c.loop-turn.invariant.0.bulge
-
-pub shape_of-flags : goal.shape_of-flags
-shape_of-flags c = c.loop-turn.invariant.1.alike.flags
-
-pub shape_of-indexes : goal.shape_of-indexes
-shape_of-indexes c = c.loop-turn.invariant.1.alike.indexes
-
-pub shape_of-origins : goal.shape_of-origins
-shape_of-origins c = lent_alike _ _ c.loop-turn.invariant.1.alike.origins
 
 pub returns : goal.returns
 returns c =

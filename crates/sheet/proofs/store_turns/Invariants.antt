@@ -18,7 +18,7 @@ invariant-loop-turn l =
     let b₀ = held l.columns l.initial.outxs l.initial.outys l.initial.outbulges l.initial.flags l.initial.indexes l.initial.origins in
     let s = vertices_in (lent_by l.columns l.xs l.ys l.bulges) in
     Long l.initial.outxs l.initial.outys l.initial.outbulges l.outxs l.outys l.outbulges
-    × Walking l.closed l.settings s l.v l.turns b₀ (advances l.closed l.settings (routed l.v l.turns l.from s) (trail (record { l.walk = l.initial.walk; l.places = l.initial.places }) b₀)) l._turn l.k l.walk l.places l.later
+    × Walking l.closed l.settings s l.v l.turns b₀ (advances l.closed l.settings (routed l.v l.turns l.from s) (trail (record { walk = l.initial.walk; places = l.initial.places }) b₀)) l._turn l.k l.walk l.places l.later
     (held l.columns l.outxs l.outys l.outbulges l.flags l.indexes l.origins) l.chord l.keys l.sweeps
 
 abbrev pub decreases-loop-turn : goal.decreases-loop-turn
