@@ -14,14 +14,14 @@ returns-then-not-has_room c =
     let pre = c.requires in
     let a = c.args in
     no_room _ _ a.columns a.outxs.now a.outys.now a.outbulges.now a.flags.now a.indexes.now a.origins.now a.settings a.pointed pre.1 _ _ _ _ _ pre.0 c.moves_a_segment.ensures c.segment_count.ensures
-    (told-count a.columns a.outxs.now a.outys.now a.outbulges.now c.vertex_count-fit.ensures) c.has_room.ensures c.if-not-has_room.true
+    (told-count a.columns a.outxs.now a.outys.now a.outbulges.now c.vertex_count-fit.ensures) c.has_room.ensures c.if-not-has_room.true-raw
 
 pub copy-requires : goal.copy-requires
 copy-requires c =
     let pre = c.requires in
     let a = c.args in
     copyable _ _ a.columns a.outxs.now a.outys.now a.outbulges.now a.flags.now a.indexes.now a.origins.now a.settings a.pointed pre.1 _ _ _ _ _ pre.0 c.moves_a_segment.ensures c.segment_count.ensures
-    (told-count a.columns a.outxs.now a.outys.now a.outbulges.now c.vertex_count-fit.ensures) c.has_room.ensures c.if-not-has_room.false
+    (told-count a.columns a.outxs.now a.outys.now a.outbulges.now c.vertex_count-fit.ensures) c.has_room.ensures c.if-not-has_room.false-raw
 
 pub returns-then-settings : goal.returns-then-settings
 returns-then-settings c =
@@ -29,7 +29,7 @@ returns-then-settings c =
     let a = c.args in
     let call = c.copy in
     zero-offset _ _ a.columns a.outxs.now a.outys.now a.outbulges.now a.flags.now a.indexes.now a.origins.now a.settings a.pointed pre.1 _ _ _ _ _ pre.0 c.moves_a_segment.ensures c.segment_count.ensures
-    (told-count a.columns a.outxs.now a.outys.now a.outbulges.now c.vertex_count-fit.ensures) c.has_room.ensures c.if-not-has_room.false c.if-settings.true
+    (told-count a.columns a.outxs.now a.outys.now a.outbulges.now c.vertex_count-fit.ensures) c.has_room.ensures c.if-not-has_room.false-raw c.if-settings.true
     _ _ _ _ _ _ call.ensures.0 call.ensures.1
 
 pub offset_nonzero-requires : goal.offset_nonzero-requires
@@ -37,12 +37,12 @@ offset_nonzero-requires c =
     let pre = c.requires in
     let a = c.args in
     drawable _ _ a.columns a.outxs.now a.outys.now a.outbulges.now a.flags.now a.indexes.now a.origins.now a.settings a.pointed pre.1 _ _ _ _ _ pre.0 c.moves_a_segment.ensures c.segment_count.ensures
-    (told-count a.columns a.outxs.now a.outys.now a.outbulges.now c.vertex_count-fit.ensures) c.has_room.ensures c.if-not-has_room.false
+    (told-count a.columns a.outxs.now a.outys.now a.outbulges.now c.vertex_count-fit.ensures) c.has_room.ensures c.if-not-has_room.false-raw
 
 pub returns : goal.returns
 returns c =
     let pre = c.requires in
     let a = c.args in
     nonzero-offset _ _ a.columns a.outxs.now a.outys.now a.outbulges.now a.flags.now a.indexes.now a.origins.now a.settings a.pointed pre.1 _ _ _ _ _ pre.0 c.moves_a_segment.ensures c.segment_count.ensures
-    (told-count a.columns a.outxs.now a.outys.now a.outbulges.now c.vertex_count-fit.ensures) c.has_room.ensures c.if-not-has_room.false c.if-settings.false
+    (told-count a.columns a.outxs.now a.outys.now a.outbulges.now c.vertex_count-fit.ensures) c.has_room.ensures c.if-not-has_room.false-raw c.if-settings.false
     c.offset_nonzero.ensures

@@ -13,11 +13,11 @@ use Rattle.pieces.proofs.Drawn.{few-counts, drawn-called}
 use Rattle.pieces.proofs.draw.Goals as goal
 
 pub returns-then-not-is_open : goal.returns-then-not-is_open
-returns-then-not-is_open c = draw-shut _ _ _ (ap not (sym c.is_open.ensures) ∙ c.if-not-is_open.true) c.shut.ensures.0 c.shut.ensures.1
+returns-then-not-is_open c = draw-shut _ _ _ (ap not (sym c.is_open.ensures) ∙ c.if-not-is_open.true-raw) c.shut.ensures.0 c.shut.ensures.1
 
 pub returns-then-not-is_whole : goal.returns-then-not-is_whole
 returns-then-not-is_whole c =
-    draw-ragged _ _ _ (ap not (sym c.is_open.ensures) ∙ c.if-not-is_open.false) (ap not (sym c.is_whole.ensures) ∙ c.if-not-is_whole.true) c.unchanged.ensures.0 c.unchanged.ensures.1
+    draw-ragged _ _ _ (ap not (sym c.is_open.ensures) ∙ c.if-not-is_open.false-raw) (ap not (sym c.is_whole.ensures) ∙ c.if-not-is_whole.true-raw) c.unchanged.ensures.0 c.unchanged.ensures.1
 
 pub overflow_mul-room : goal.overflow_mul-room
 overflow_mul-room c =
@@ -29,7 +29,7 @@ overflow_mul-room c =
 pub returns-then-not-has_room : goal.returns-then-not-has_room
 returns-then-not-has_room c =
     let same = same-room c.args.job c.args.source.now c.args.vertices.now c.args.flags.now c.args.indexes.now c.args.origins.now c.is_pointed-pointed.ensures c.moves_a_segment.ensures c.has_room.ensures in
-    draw_roomless _ _ _ (ap not (sym c.is_open.ensures) ∙ c.if-not-is_open.false) (ap not (sym c.is_whole.ensures) ∙ c.if-not-is_whole.false) (sym same ∙ c.if-not-has_room.true) c.unchanged-then-not-has_room.ensures.0 c.unchanged-then-not-has_room.ensures.1
+    draw_roomless _ _ _ (ap not (sym c.is_open.ensures) ∙ c.if-not-is_open.false-raw) (ap not (sym c.is_whole.ensures) ∙ c.if-not-is_whole.false-raw) (sym same ∙ c.if-not-has_room.true-raw) c.unchanged-then-not-has_room.ensures.0 c.unchanged-then-not-has_room.ensures.1
 
 pub take_vertices-taken-requires : goal.take_vertices-taken-requires
 take_vertices-taken-requires c =
@@ -37,22 +37,22 @@ take_vertices-taken-requires c =
     let told = c.settings-settings.ensures in (
       count-rows _,
       rw (c.none-first.ensures, told) (record {
-        taken = facts.true;
+        taken = facts.taken;
         number = facts.number;
         told = c.is_pointed-pointed.ensures;
-        rooms = room_rules c.args.job c.args.source.now c.args.vertices.now c.args.flags.now c.args.indexes.now c.args.origins.now c.is_pointed-pointed.ensures c.moves_a_segment.ensures c.has_room.ensures c.if-not-has_room.false;
+        rooms = room_rules c.args.job c.args.source.now c.args.vertices.now c.args.flags.now c.args.indexes.now c.args.origins.now c.is_pointed-pointed.ensures c.moves_a_segment.ensures c.has_room.ensures c.if-not-has_room.false-raw;
       }),
     )
 
 pub after-requires : goal.after-requires
 after-requires c =
     let facts = open_facts _ (sym c.is_open.ensures ∙ c.if-not-is_open.false) in
-    let rooms = room_rules c.args.job c.args.source.now c.args.vertices.now c.args.flags.now c.args.indexes.now c.args.origins.now c.is_pointed-pointed.ensures c.moves_a_segment.ensures c.has_room.ensures c.if-not-has_room.false in
-    few-counts _ c.args.job _ _ c.take_vertices-taken.result _ _ _ _ _ _ _ _ (rw (← count-rows c.args.source.now) rooms) c.settings-settings.ensures c.none-first.ensures c.take_vertices-taken.ensures facts.true
+    let rooms = room_rules c.args.job c.args.source.now c.args.vertices.now c.args.flags.now c.args.indexes.now c.args.origins.now c.is_pointed-pointed.ensures c.moves_a_segment.ensures c.has_room.ensures c.if-not-has_room.false-raw in
+    few-counts _ c.args.job _ _ c.take_vertices-taken.result _ _ _ _ _ _ _ _ (rw (← count-rows c.args.source.now) rooms) c.settings-settings.ensures c.none-first.ensures c.take_vertices-taken.ensures facts.taken
 
 pub returns : goal.returns
 returns c =
-    let rooms = room_rules c.args.job c.args.source.now c.args.vertices.now c.args.flags.now c.args.indexes.now c.args.origins.now c.is_pointed-pointed.ensures c.moves_a_segment.ensures c.has_room.ensures c.if-not-has_room.false in
+    let rooms = room_rules c.args.job c.args.source.now c.args.vertices.now c.args.flags.now c.args.indexes.now c.args.origins.now c.is_pointed-pointed.ensures c.moves_a_segment.ensures c.has_room.ensures c.if-not-has_room.false-raw in
     let same = same-room c.args.job c.args.source.now c.args.vertices.now c.args.flags.now c.args.indexes.now c.args.origins.now c.is_pointed-pointed.ensures c.moves_a_segment.ensures c.has_room.ensures in
-    draw-goes _ _ _ (ap not (sym c.is_open.ensures) ∙ c.if-not-is_open.false) (ap not (sym c.is_whole.ensures) ∙ c.if-not-is_whole.false) (sym same ∙ c.if-not-has_room.false)
+    draw-goes _ _ _ (ap not (sym c.is_open.ensures) ∙ c.if-not-is_open.false-raw) (ap not (sym c.is_whole.ensures) ∙ c.if-not-is_whole.false-raw) (sym same ∙ c.if-not-has_room.false-raw)
     (drawn-called _ c.args.job _ _ c.take_vertices-taken.result _ _ _ _ _ _ _ _ (rw (← count-rows c.args.source.now) rooms) c.settings-settings.ensures c.none-first.ensures c.take_vertices-taken.ensures c.after.ensures.0 c.after.ensures.1)

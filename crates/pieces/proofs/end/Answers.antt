@@ -12,23 +12,23 @@ use Rattle.pieces.proofs.Last.{end-endless as endless, end-finite, ended-called}
 use Rattle.pieces.proofs.end.Goals as goal
 
 pub returns-then-not-is_open : goal.returns-then-not-is_open
-returns-then-not-is_open c = end-shut _ _ (ap not (sym c.is_open.ensures) ∙ c.if-not-is_open.true) c.shut.ensures.0 c.shut.ensures.1
+returns-then-not-is_open c = end-shut _ _ (ap not (sym c.is_open.ensures) ∙ c.if-not-is_open.true-raw) c.shut.ensures.0 c.shut.ensures.1
 
 pub returns-then-not-has_room : goal.returns-then-not-has_room
 returns-then-not-has_room c =
-    end_roomless _ _ (ap not (sym c.is_open.ensures) ∙ c.if-not-is_open.false) (ap not (sym (c.has_room.ensures ∙ room_tested 2 c.args.vertices.now c.args.flags.now c.args.indexes.now c.args.origins.now)) ∙ c.if-not-has_room.true) c.unchanged.ensures.0 c.unchanged.ensures.1
+    end_roomless _ _ (ap not (sym c.is_open.ensures) ∙ c.if-not-is_open.false-raw) (ap not (sym (c.has_room.ensures ∙ room_tested 2 c.args.vertices.now c.args.flags.now c.args.indexes.now c.args.origins.now)) ∙ c.if-not-has_room.true-raw) c.unchanged.ensures.0 c.unchanged.ensures.1
 
 pub end-ending-requires : goal.end-ending-requires
 end-ending-requires c =
     let facts = open_facts _ (sym c.is_open.ensures ∙ c.if-not-is_open.false) in
-    (facts.true, omega (arith, facts.true, facts.number))
+    (facts.taken, omega (arith, facts.taken, facts.number))
 
 pub returns-then-is_endless_end : goal.returns-then-is_endless_end
 returns-then-is_endless_end c =
     let j = c.args.job in
     let n = c.number-number.ensures in
     let e = n ∙ endless _ _ c.end-ending.ensures.0 c.is_endless_end.ensures c.if-is_endless_end.true ∙ ap (λ (σ : Settings). end_refusal σ j.course) c.settings-settings.ensures in
-    end-endless _ _ (ap not (sym c.is_open.ensures) ∙ c.if-not-is_open.false) (ap not (sym (c.has_room.ensures ∙ room_tested 2 c.args.vertices.now c.args.flags.now c.args.indexes.now c.args.origins.now)) ∙ c.if-not-has_room.false) e (λ z. omega (arith, n))
+    end-endless _ _ (ap not (sym c.is_open.ensures) ∙ c.if-not-is_open.false-raw) (ap not (sym (c.has_room.ensures ∙ room_tested 2 c.args.vertices.now c.args.flags.now c.args.indexes.now c.args.origins.now)) ∙ c.if-not-has_room.false-raw) e (λ z. omega (arith, n))
     (rw (c.none.ensures, c.staged.ensures))
 
 pub store_ending-places-requires : goal.store_ending-places-requires
@@ -45,5 +45,5 @@ returns c =
     let e = c.store_ending-places.ensures in
     let room = room_had 2 c.args.vertices.now c.args.flags.now c.args.indexes.now c.args.origins.now (sym c.has_room.ensures ∙ c.if-not-has_room.false) in
     let z = ap (λ (σ : Settings). end_refusal σ j.course) (sym c.settings-settings.ensures) ∙ end-finite _ _ c.end-ending.ensures.0 c.is_endless_end.ensures c.if-is_endless_end.false in
-    end_goes _ _ (ap not (sym c.is_open.ensures) ∙ c.if-not-is_open.false) (ap not (sym (c.has_room.ensures ∙ room_tested 2 c.args.vertices.now c.args.flags.now c.args.indexes.now c.args.origins.now)) ∙ c.if-not-has_room.false) z
+    end_goes _ _ (ap not (sym c.is_open.ensures) ∙ c.if-not-is_open.false-raw) (ap not (sym (c.has_room.ensures ∙ room_tested 2 c.args.vertices.now c.args.flags.now c.args.indexes.now c.args.origins.now)) ∙ c.if-not-has_room.false-raw) z
     (ended-called j c.end-ending.result c.store_ending-places.result _ _ _ _ _ _ _ _ c.settings-settings.ensures c.end-ending.ensures.0 e.0 e.1 e.2 room c.ending_answer.ensures c.staged-2.ensures)

@@ -4,10 +4,10 @@ use Rattle.course.proofs.Strokes.{two-taken, both-and, copied_on, held_on, enter
 use Rattle.course.proofs.Course.take.Goals as goal
 
 pub copy-requires : goal.copy-requires
-copy-requires c = c.requires.true
+copy-requires c = c.requires.taken
 
 pub held-requires : goal.held-requires
-held-requires c = c.requires.true
+held-requires c = c.requires.taken
 
 pub with-requires : goal.with-requires
 with-requires c = c.copy.ensures.1
@@ -18,7 +18,7 @@ returns-then-settings c =
     both-and (copied_on _ _ _ c.if-settings.true (on.0 ∙ c.copy.ensures.0) (on.1 ∙ c.held.ensures)) on.2
 
 pub held-requires-then-self-eq0 : goal.held-requires-then-self-eq0
-held-requires-then-self-eq0 c = c.requires.true
+held-requires-then-self-eq0 c = c.requires.taken
 
 pub with-requires-then-self-eq0 : goal.with-requires-then-self-eq0
 with-requires-then-self-eq0 c = c.undrawn.ensures.1
@@ -29,7 +29,7 @@ returns-then-self-eq0 c =
     both-and (held_on _ _ _ c.if-settings.false c.if-self-eq0.true (on.0 ∙ c.undrawn.ensures.0) (on.1 ∙ c.held-then-self-eq0.ensures)) on.2
 
 pub entered-requires : goal.entered-requires
-entered-requires c = c.requires.true
+entered-requires c = c.requires.taken
 
 pub with-requires-then-self-eq1 : goal.with-requires-then-self-eq1
 with-requires-then-self-eq1 c = c.undrawn-then-self-eq1.ensures.1

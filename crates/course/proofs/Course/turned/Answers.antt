@@ -14,7 +14,7 @@ turn-turned-requires c =
     let e = source-number _ _ walk.result walk.ensures.0 in
     let able = c.requires.1 in
     record {
-      source_bound = omega (arith, able.true);
+      source_bound = omega (arith, able.taken);
       fit = (walk.ensures.1, able.told);
       carries = rw (vertex-held _ _ walk.result walk.ensures.0) c.anew-ahead.ensures;
     }
@@ -23,14 +23,14 @@ pub step-span-requires : goal.step-span-requires
 step-span-requires c =
     let able = c.requires.1 in
     let e = pen-number _ _ c.walk-walk.result c.walk-walk.ensures.0 in
-    omega (arith, able.true, able.number)
+    omega (arith, able.taken, able.number)
 
 pub step_to_tip-tip-requires : goal.step_to_tip-tip-requires
 step_to_tip-tip-requires c =
     let able = c.requires.1 in
     let e = pen-number _ _ c.walk-walk.result c.walk-walk.ensures.0 in
     let n = stepped-number _ _ _ c.step-span.result c.step-span.ensures in
-    (omega (arith, able.true, able.number), connector-origin _ _ c.walk-walk.result c.turn-turned.result c.walk-walk.ensures.0 c.turn-turned.ensures.5 able.true)
+    (omega (arith, able.taken, able.number), connector-origin _ _ c.walk-walk.result c.turn-turned.result c.walk-walk.ensures.0 c.turn-turned.ensures.5 able.taken)
 
 pub step-connector-requires : goal.step-connector-requires
 step-connector-requires c =
@@ -39,10 +39,10 @@ step-connector-requires c =
     let e = pen-number _ _ c.walk-walk.result c.walk-walk.ensures.0 in
     let n = stepped-number _ _ _ c.step-span.result c.step-span.ensures in
     let m = row_number _ _ _ c.step_to_tip-tip.ensures.1 in
-    omega (arith, able.true, able.number, tip-one t.join t.connector)
+    omega (arith, able.taken, able.number, tip-one t.join t.connector)
 
 pub left_at-course-requires : goal.left_at-course-requires
-left_at-course-requires c = c.requires.1.true
+left_at-course-requires c = c.requires.1.taken
 
 pub returns : goal.returns
 unfolding strokes_in
@@ -58,8 +58,8 @@ returns c =
       turn-strokes _ _ _ c.walk-walk.result c.turn-turned.result c.step-span.result c.step_to_tip-tip.result c.step-connector.result at t b s one (tip.0, tip.1) three,
       turn_left _ _ _ c.walk-walk.result c.turn-turned.result c.step-span.result c.step_to_tip-tip.result c.step-connector.result at t b s one (tip.0, tip.1) three c.left_at-course.ensures,
       record {
-        span = rw (one, s) (stepped_coded _ _ _ (span-origin _ _ _ c.walk-walk.result c.turn-turned.result at t able.true));
+        span = rw (one, s) (stepped_coded _ _ _ (span-origin _ _ _ c.walk-walk.result c.turn-turned.result at t able.taken));
         tip = tip.2;
-        connector = rw three (stepped_coded _ _ _ (connector-origin _ _ c.walk-walk.result c.turn-turned.result at c.turn-turned.ensures.5 able.true));
+        connector = rw three (stepped_coded _ _ _ (connector-origin _ _ c.walk-walk.result c.turn-turned.result at c.turn-turned.ensures.5 able.taken));
       },
     )
