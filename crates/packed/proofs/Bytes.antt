@@ -12,7 +12,6 @@ use lib.Seq.{sets, take_at, take_all, length-take-le}
 use Rattle.floats.proofs.Choice.{yes, no, and_no, both_pass}
 use Rattle.words.specs.Words.{number_at}
 use Rattle.segments.specs.declared.Corners.{Corners}
-use Rattle.segments.specs.declared.Corners.TheVariants as Corners
 use Rattle.segments.specs.declared.Settings.{Settings}
 use Rattle.packed.specs.declared.unpacked.Form.{Form}
 use Rattle.packed.specs.declared.unpacked.Form.TheVariants.{Round, Pointed, Either}

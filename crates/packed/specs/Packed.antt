@@ -3,7 +3,6 @@ use Rattle.std.specs.Prelude.{ℕ, zero, suc, ◌+◌, ◌*◌, ◌/◌, ◌%◌
 use Rattle.floats.specs.Choice.{when◌give◌else◌, ◌and◌}
 use Rattle.words.specs.Words.{big_endian, number_at}
 use Rattle.segments.specs.declared.Corners.{Corners}
-use Rattle.segments.specs.declared.Corners.TheVariants as Corners
 use Rattle.segments.specs.declared.Settings.{Settings}
 use Rattle.packed.specs.declared.unpacked.Form.{Form}
 use Rattle.packed.specs.declared.unpacked.Form.TheVariants.{Round, Pointed, Either}

@@ -1,5 +1,4 @@
 -- `is_last` meets its contract. Assumes nothing.
-use borrow.Author.Rules.{rules}
 use Rattle.floats.proofs.Same.{choices}
 use Rattle.packed.proofs.text.is_last.Goals as goal
 

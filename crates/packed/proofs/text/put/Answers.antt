@@ -1,12 +1,11 @@
 -- `put` meets its contract. Assumes nothing.
-use borrow.Author.Rules.{rules}
 use mathlib.Core.List.{[], ◌∷◌}
 use mathlib.Core.Path.{◌≡◌, refl, ap, ◌∙◌}
-use Prim.Native.Nat.{◌+◌, ◌-◌, ◌<◌, ◌≤◌}
+use Prim.Native.Nat.{◌+◌, ◌<◌, ◌≤◌}
 use native.Mathlib.Omega.{arith}
-use lib.ListN.{get_or, length, take}
+use lib.ListN.{get_or, length}
 use lib.Seq.{length-take-le, sets, take-length, take-suc}
-use Rattle.packed.proofs.Writing.{Writing, sets_next, writing_done, writing_none, writing_turn}
+use Rattle.packed.proofs.Writing.{sets_next, writing_done, writing_none, writing_turn}
 use Rattle.packed.proofs.text.put.Goals as goal
 
 pub loop-i-init : goal.loop-i-init

@@ -1,12 +1,7 @@
 -- `put` meets its contract. Assumes nothing.
-use borrow.Author.Rules.{rules}
-use mathlib.Core.List.{[], ◌∷◌}
-use mathlib.Core.Path.{◌≡◌, refl, ap, ◌∙◌}
-use Prim.Native.Nat.{◌+◌, ◌-◌, ◌<◌, ◌≤◌}
-use native.Mathlib.Omega.{arith}
-use lib.ListN.{get_or, length, take}
-use lib.Seq.{length-take-le, sets, take-length, take-suc}
-use Rattle.packed.proofs.Writing.{Writing, sets_next, writing_done, writing_none, writing_turn}
+use Prim.Native.Nat.{◌-◌}
+use lib.ListN.{take}
+use Rattle.packed.proofs.Writing.{Writing}
 use Rattle.packed.proofs.text.put.Given as goal
 
 abbrev pub invariant-loop-i : goal.invariant-loop-i

@@ -1,5 +1,4 @@
 -- `put_closed` meets its contract. Assumes nothing.
-use borrow.Author.Rules.{rules}
 use mathlib.Core.Path.{◌≡◌, refl}
 use native.Mathlib.Omega.{arith}
 use Rattle.floats.proofs.Choice.{no, yes}
@@ -9,19 +8,17 @@ use Rattle.packed.proofs.text.put_closed.Goals as goal
 pub returns-then-closed : goal.returns-then-closed
 returns-then-closed c =
     let w : ascii "closed" ≡ word_of c.args.closed = yes _ _ _ c.if-closed.true refl in
-    let both = rw (← w) (refl, (omega arith, c.put.ensures)) in
     record {
-      value = both.0;
-      upper_bound = both.1.0;
-      out_after = both.1.1;
+      value = rw (← w);
+      upper_bound = omega arith;
+      out_after = rw (← w) c.put.ensures;
     }
 
 pub returns : goal.returns
 returns c =
     let w : ascii "open" ≡ word_of c.args.closed = no _ _ _ c.if-closed.false refl in
-    let both = rw (← w) (refl, (omega arith, c.put-2.ensures)) in
     record {
-      value = both.0;
-      upper_bound = both.1.0;
-      out_after = both.1.1;
+      value = rw (← w);
+      upper_bound = omega arith;
+      out_after = rw (← w) c.put-2.ensures;
     }

@@ -1,19 +1,12 @@
 -- `put_decimal` meets its contract. Assumes nothing.
-use borrow.Author.Rules.{rules}
 use mathlib.Core.List.{List}
 use mathlib.Core.Path.{ap, ◌∙◌}
-use Prim.Native.Nat.{ℕ, ◌≤◌}
+use Prim.Native.Nat.{ℕ}
 use native.Mathlib.Omega.{arith}
 use lib.Seq.{sets}
 use Rattle.packed.specs.Text.{decimal_of, ◌then◌}
 use Rattle.packed.proofs.Digits.{decimal, decimal_short, length_decimal, length-then}
-use Rattle.packed.proofs.text.put_decimal.Goals.{After-slice_known-2-1}
 use Rattle.packed.proofs.text.put_decimal.Goals as goal
-
-short : (c : After-slice_known-2-1) → c.decimal-n.result ≤ 20
-short c =
-    let d = c.decimal-n in
-    decimal_short c.args.number d.result (omega arith) d.ensures.len
 
 pub put-requires : goal.put-requires
 put-requires c =
@@ -22,10 +15,14 @@ put-requires c =
     omega (arith, d.ensures.in_bounds.1)
 
 pub overflow_add-result : goal.overflow_add-result
-overflow_add-result c = omega (arith, short c)
+overflow_add-result c =
+    let d = c.decimal-n in
+    omega (arith, decimal_short c.args.number d.result (omega arith) d.ensures.len)
 
 pub overflow_add-result-2 : goal.overflow_add-result-2
-overflow_add-result-2 c = omega (arith, short c)
+overflow_add-result-2 c =
+    let d = c.decimal-n in
+    omega (arith, decimal_short c.args.number d.result (omega arith) d.ensures.len)
 
 pub returns : goal.returns
 returns c =
@@ -34,9 +31,9 @@ returns c =
     let f = d.ensures.len in
     let l = length_decimal a.number d.result (omega arith) f in
     let m = length-then (decimal_of a.number) a.end in
-    let e = (d.ensures.digits, d.ensures.rest) ∙ decimal a.number d.result (omega arith) f in
+    let e = d.ensures.digits ∙ decimal a.number d.result (omega arith) f in
     record {
       value = omega arith;
-      upper_bound = omega (arith, short c);
+      upper_bound = omega (arith, decimal_short a.number d.result (omega arith) f);
       out_after = c.put.ensures ∙ ap (λ (w : List ℕ). sets a.out.now a.at (w then a.end)) e;
     }

@@ -1,5 +1,4 @@
 -- `put_head` meets its contract. Assumes nothing.
-use borrow.Author.Rules.{rules}
 use native.Mathlib.Omega.{arith}
 use Rattle.packed.proofs.Lines.{head}
 use Rattle.packed.proofs.text.put_head.Goals as goal

@@ -1,5 +1,4 @@
 -- `put_hex` meets its contract. Assumes nothing.
-use borrow.Author.Rules.{rules}
 use mathlib.Core.List.{List}
 use mathlib.Core.Path.{◌≡◌, ap, ◌∙◌}
 use Prim.Native.Nat.{ℕ}
@@ -25,4 +24,4 @@ returns c =
     let b = c.bits_of in
     let s = sixteen b.result d.result (omega arith) d.ensures.len in
     let e : last_digits 16 d.result b.result ≡ last_digits 16 16 (to_bits binary64 a.x) = rw (s, b.ensures) in
-    c.put.ensures ∙ ap (λ (w : List ℕ). sets a.out.now a.at (w then a.end)) ((d.ensures.digits, d.ensures.rest) ∙ e)
+    c.put.ensures ∙ ap (λ (w : List ℕ). sets a.out.now a.at (w then a.end)) (d.ensures.digits ∙ e)

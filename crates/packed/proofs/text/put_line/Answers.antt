@@ -1,5 +1,4 @@
 -- `put_line` meets its contract. Assumes nothing.
-use borrow.Author.Rules.{rules}
 use Rattle.packed.proofs.Lines.{line}
 use Rattle.packed.proofs.text.put_line.Goals as goal
 

@@ -1,15 +1,14 @@
 -- `put_lines` meets its contract. Assumes nothing.
-use borrow.Author.Rules.{rules}
 use mathlib.Core.Bool.{Bool, not}
 use mathlib.Core.Path.{◌≡◌, refl, ap, ◌∙◌}
-use Prim.Native.Nat.{◌+◌, ◌*◌, ◌-◌}
+use Prim.Native.Nat.{◌+◌, ◌*◌}
 use native.Mathlib.Omega.{arith}
 use lib.Dec.{eqb}
 use lib.ListN.{get_or}
 use Rattle.floats.specs.Choice.{◌and◌}
 use Rattle.packed.specs.Text.{line_at, lines_of, mark_of}
 use Rattle.packed.proofs.Lines.{length-lines}
-use Rattle.packed.proofs.Writing.{Writing, writing_done, writing_none, writing_turn}
+use Rattle.packed.proofs.Writing.{writing_done, writing_none, writing_turn}
 use Rattle.packed.proofs.text.put_lines.Goals as goal
 
 pub loop-i-init : goal.loop-i-init

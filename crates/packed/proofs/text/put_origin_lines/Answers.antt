@@ -1,15 +1,14 @@
 -- `put_origin_lines` meets its contract. Assumes nothing.
-use borrow.Author.Rules.{rules}
 use mathlib.Core.List.{◌++◌}
 use mathlib.Core.Path.{◌≡◌, refl}
-use Prim.Native.Nat.{suc, ◌+◌, ◌*◌, ◌-◌, ◌≤◌}
+use Prim.Native.Nat.{suc}
 use native.Mathlib.Numerals.{add-one}
 use native.Mathlib.Omega.{arith}
-use lib.ListN.{length, take}
+use lib.ListN.{take}
 use Rattle.moves.specs.Origins.{origins_in}
 use Rattle.packed.specs.Text.{origin_line, origin_lines}
 use Rattle.packed.proofs.Lines.{origin-lines-next}
-use Rattle.packed.proofs.Writing.{Writing, place-next, writing_done, writing_none, writing_turn}
+use Rattle.packed.proofs.Writing.{place-next, writing_done, writing_none, writing_turn}
 use Rattle.packed.proofs.text.put_origin_lines.Goals as goal
 
 pub loop-i-init : goal.loop-i-init

@@ -1,15 +1,10 @@
 -- `put_origin_lines` meets its contract. Assumes nothing.
-use borrow.Author.Rules.{rules}
-use mathlib.Core.List.{◌++◌}
-use mathlib.Core.Path.{◌≡◌, refl}
-use Prim.Native.Nat.{suc, ◌+◌, ◌*◌, ◌-◌, ◌≤◌}
-use native.Mathlib.Numerals.{add-one}
-use native.Mathlib.Omega.{arith}
+use mathlib.Core.Path.{◌≡◌}
+use Prim.Native.Nat.{◌+◌, ◌*◌, ◌-◌, ◌≤◌}
 use lib.ListN.{length, take}
 use Rattle.moves.specs.Origins.{origins_in}
-use Rattle.packed.specs.Text.{origin_line, origin_lines}
-use Rattle.packed.proofs.Lines.{origin-lines-next}
-use Rattle.packed.proofs.Writing.{Writing, place-next, writing_done, writing_none, writing_turn}
+use Rattle.packed.specs.Text.{origin_lines}
+use Rattle.packed.proofs.Writing.{Writing}
 use Rattle.packed.proofs.text.put_origin_lines.Given as goal
 
 abbrev pub invariant-loop-i : goal.invariant-loop-i

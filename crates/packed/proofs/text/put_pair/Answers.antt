@@ -1,5 +1,4 @@
 -- `put_pair` meets its contract. Assumes nothing.
-use borrow.Author.Rules.{rules}
 use Rattle.packed.proofs.Lines.{pair}
 use Rattle.packed.proofs.text.put_pair.Goals as goal
 

@@ -1,5 +1,4 @@
 -- `put_refusal` meets its contract. Assumes nothing.
-use borrow.Author.Rules.{rules}
 use native.Mathlib.Omega.{arith}
 use Rattle.packed.specs.Text.{decimal_of, line_end, refusal_of, space, ◌then◌}
 use Rattle.packed.proofs.Lines.{two-rows}

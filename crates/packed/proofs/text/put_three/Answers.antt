@@ -1,5 +1,4 @@
 -- `put_three` meets its contract. Assumes nothing.
-use borrow.Author.Rules.{rules}
 use native.Mathlib.Omega.{arith}
 use Rattle.packed.proofs.Lines.{three}
 use Rattle.packed.proofs.text.put_three.Goals as goal

@@ -1,5 +1,4 @@
 -- `put_told` meets its contract. Assumes nothing.
-use borrow.Author.Rules.{rules}
 use native.Mathlib.Omega.{arith}
 use Rattle.packed.proofs.Lines.{told}
 use Rattle.packed.proofs.text.put_told.Goals as goal

@@ -1,6 +1,5 @@
 -- `decode_by` meets its contract. Assumes nothing.
-use borrow.Author.Rules.{rules}
-use borrow.Author.Tests.{not-true}
+use mathlib.Core.Bool.{not}
 use mathlib.Core.Path.{refl, sym, ap, ◌∙◌}
 use Prim.Native.Nat.{◌*◌, ◌%◌, ◌≤◌}
 use native.Mathlib.Omega.{arith}
@@ -16,7 +15,7 @@ returns-then-not-well_formed c = no _ _ _ (sym c.well_formed-2.ensures ∙ c.if-
 
 pub big_endian-header-requires : goal.big_endian-header-requires
 big_endian-header-requires c =
-    let n = sized _ (formed _ c.well_formed-2.ensures c.if-not-well_formed.false) in
+    let n = sized _ (formed _ c.well_formed-2.ensures (ap not c.if-not-well_formed.false)) in
     record {
       count_in_bounds = omega arith;
       count_bound = omega arith;
@@ -25,7 +24,7 @@ big_endian-header-requires c =
 pub fill-requires : goal.fill-requires
 unfolding count_of header_of
 fill-requires c =
-    let well = formed _ c.well_formed-2.ensures c.if-not-well_formed.false in
+    let well = formed _ c.well_formed-2.ensures (ap not c.if-not-well_formed.false) in
     let n = sized _ well in
     let m = few _ well in
     let h = c.big_endian-header.ensures in
@@ -36,19 +35,19 @@ fill-requires c =
 
 pub number_at-requires : goal.number_at-requires
 number_at-requires c =
-    let n = sized _ (formed _ c.well_formed-2.ensures c.if-not-well_formed.false) in
+    let n = sized _ (formed _ c.well_formed-2.ensures (ap not c.if-not-well_formed.false)) in
     omega arith
 
 pub number_at-requires-2 : goal.number_at-requires-2
 number_at-requires-2 c =
-    let n = sized _ (formed _ c.well_formed-2.ensures c.if-not-well_formed.false) in
+    let n = sized _ (formed _ c.well_formed-2.ensures (ap not c.if-not-well_formed.false)) in
     omega arith
 
 pub returns : goal.returns
 unfolding decoded_by count_of header_of closed_of offset_of eps_of source_of packed_of
 returns c =
     let a = c.args in
-    let well = formed _ c.well_formed-2.ensures c.if-not-well_formed.false in
+    let well = formed _ c.well_formed-2.ensures (ap not c.if-not-well_formed.false) in
     let m = few _ well in
     let h = c.big_endian-header in
     let n = 3 * (h.result % 4096) in

@@ -1,12 +1,7 @@
 -- `fill` meets its contract. Assumes nothing.
-use borrow.Author.Rules.{rules}
-use mathlib.Core.List.{[], ◌∷◌}
-use mathlib.Core.Path.{refl}
 use Prim.Native.Nat.{◌-◌}
-use native.Mathlib.Omega.{arith}
 use Rattle.packed.specs.Packed.{numbers_of}
-use Rattle.packed.proofs.Bytes.{length-numbers}
-use Rattle.packed.proofs.Writing.{Writing, writing_done, writing_none, writing_turn}
+use Rattle.packed.proofs.Writing.{Writing}
 use Rattle.packed.proofs.unpacked.fill.Given as goal
 
 abbrev pub invariant-loop-k : goal.invariant-loop-k

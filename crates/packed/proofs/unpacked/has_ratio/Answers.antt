@@ -1,5 +1,4 @@
 -- `has_ratio` meets its contract. Assumes nothing.
-use borrow.Author.Rules.{rules}
 use mathlib.Core.Path.{refl}
 use Rattle.packed.proofs.unpacked.has_ratio.Goals as goal
 

@@ -1,8 +1,6 @@
 -- `well_formed` meets its contract. Assumes nothing.
-use borrow.Author.Rules.{rules}
 use borrow.Author.Tests.{eq-eqb, ne_eqb}
 use mathlib.Core.Path.{refl, sym}
-use native.Mathlib.Omega.{arith}
 use Rattle.floats.proofs.Choice.{and_no, and_yes}
 use Rattle.packed.specs.Packed.{count_of, header_of, well_formed, zero_of}
 use Rattle.packed.proofs.Bytes.{short}
