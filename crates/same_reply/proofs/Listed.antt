@@ -4,12 +4,12 @@ use mathlib.Core.List.{List, [], ◌∷◌}
 use mathlib.Core.Bool.{Bool, true, false}
 use Prim.Native.Nat.{ℕ, zero, suc, ◌≤◌}
 use native.Mathlib.Omega.{arith}
-use borrow.Author.Tests.{not-false, ltb-true, ltb-false}
+use borrow.Author.Tests.{not-false, ltb-false}
 use lib.Dec.{ltb}
 use lib.ListN.{length, length-append, length-replicate}
 use Rattle.floats.specs.Choice.{when◌give◌else◌}
 use Rattle.segments.specs.declared.PlineVertex.{PlineVertex}
-use Rattle.compare.specs.Compare.{Output, Outcome, outcome, points_of, any_of, fields_at, entries_for, entries_to, shared, list_of, has_room, listing, compare_of, differences_of}
+use Rattle.compare.specs.Compare.{Output, Outcome, outcome, points_of, any_of, fields_at, entries_for, entries_to, shared, list_of, listing, compare_of, differences_of}
 use Rattle.compare.specs.declared.Fields.{Fields}
 use Rattle.compare.specs.declared.Differences.{Differences}
 use Rattle.compare.specs.declared.CompareAnswer.{CompareAnswer}

@@ -6,7 +6,7 @@ use Rattle.refusals.specs.declared.Refusal.TheVariants.{Malformed}
 use Rattle.refusals.specs.Table.{number_of, place_of}
 use Rattle.packed.specs.Text.{space, line_end, decimal_of, ◌then◌, three_of, refusal_of}
 use Rattle.compare.specs.declared.Differences.{Differences}
-use Rattle.compare.specs.Compare.{Outcome, number, differences_of, marks_number, compare_of}
+use Rattle.compare.specs.Compare.{Outcome, differences_of, marks_number, compare_of}
 use Rattle.same_reply.specs.Read.{read_of, is_text}
 
 -- a line for each vertex that is listed: its number, and what differs, as one number

@@ -1,6 +1,5 @@
 -- `pair` meets its contract. Assumes nothing.
 use mathlib.Core.Path.{sym, ◌∙◌}
-use borrow.Author.Rules.{rules}
 use borrow.Author.Tests.{not-true, not-false}
 use native.Mathlib.Omega.{arith}
 use Rattle.same_reply.proofs.Pairs.{numbers-within, numbers_fit, flags-within, flags-fit, first_fails, first_read}
@@ -11,7 +10,7 @@ returns-then-not-found c =
     let a = c.args in
     let read = c.read_text-found in
     record {
-      prefix_len = rw (← first_fails a.a.now a.b.now (sym read.ensures.printed_value ∙ not-true read.result.printed c.if-not-found.true)) c.malformed.ensures.prefix_len;
+      prefix_len = c.malformed.ensures.prefix_len;
       value = rw (← first_fails a.a.now a.b.now (sym read.ensures.printed_value ∙ not-true read.result.printed c.if-not-found.true)) c.malformed.ensures.value;
       text_after = rw (← first_fails a.a.now a.b.now (sym read.ensures.printed_value ∙ not-true read.result.printed c.if-not-found.true)) c.malformed.ensures.text_after;
     }
@@ -45,9 +44,9 @@ pub returns : goal.returns
 returns c =
     let a = c.args in
     let read = c.read_text-found in
-    let told = not-false read.result.printed c.if-not-found.false in
+    let told = (not-false read.result.printed c.if-not-found.false) in
     record {
-      prefix_len = rw (← first_read a.b.now a.a.now (sym read.ensures.printed_value ∙ told) (read.ensures.kept told) c.segment_count-segments.ensures) c.with_first.ensures.prefix_len;
+      prefix_len = c.with_first.ensures.prefix_len;
       value = rw (← first_read a.b.now a.a.now (sym read.ensures.printed_value ∙ told) (read.ensures.kept told) c.segment_count-segments.ensures) c.with_first.ensures.value;
       text_after = rw (← first_read a.b.now a.a.now (sym read.ensures.printed_value ∙ told) (read.ensures.kept told) c.segment_count-segments.ensures) c.with_first.ensures.text_after;
     }

@@ -1,5 +1,4 @@
 -- `put_compared` meets its contract. Assumes nothing.
-use borrow.Author.Rules.{rules}
 use Rattle.same_reply.proofs.Listed.{few-listed, compared_text}
 use Rattle.same_reply.proofs.put_compared.Goals as goal
 
@@ -10,7 +9,7 @@ put_differences-requires c =
 pub returns : goal.returns
 returns c =
     record {
-      prefix_len = rw (compared_text _ _ c.compare-answer.ensures c.differences.ensures) c.put_differences.ensures.prefix_len;
+      prefix_len = c.put_differences.ensures.prefix_len;
       value = rw (compared_text _ _ c.compare-answer.ensures c.differences.ensures) c.put_differences.ensures.value;
-      text_after = rw (compared_text _ _ c.compare-answer.ensures c.differences.ensures) c.put_differences.ensures.text_after;
+      text_after = rw (compared_text _ _ c.compare-answer.ensures c.differences.ensures) c.put_differences.ensures.out_after;
     }

@@ -1,7 +1,6 @@
 -- `read_text` meets its contract. Assumes nothing.
 use mathlib.Core.Path.{◌≡◌, ◌∙◌}
 use Prim.Native.Nat.{ℕ}
-use borrow.Author.Rules.{rules}
 use native.Mathlib.Omega.{arith}
 use Rattle.same_reply.proofs.Pairs.{text-many, text-told}
 use Rattle.same_reply.proofs.read_text.Goals as goal

@@ -1,6 +1,5 @@
 -- `same_start` meets its contract. Assumes nothing.
 use mathlib.Core.Path.{sym}
-use borrow.Author.Rules.{rules}
 use lib.Seq.{length-take-le}
 use Rattle.same_reply.proofs.same_start.Goals as goal
 

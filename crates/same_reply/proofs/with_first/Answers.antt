@@ -1,6 +1,5 @@
 -- `with_first` meets its contract. Assumes nothing.
 use mathlib.Core.Path.{sym, ◌∙◌}
-use borrow.Author.Rules.{rules}
 use borrow.Author.Tests.{not-true, not-false}
 use native.Mathlib.Omega.{arith}
 use Rattle.compare.specs.Compare.{output}
@@ -12,7 +11,7 @@ returns-then-not-found c =
     let a = c.args in
     let read = c.read_text-found in
     record {
-      prefix_len = rw (← against_fails (output a.a.now a.a_closed a.a_flags.now) a.b.now (sym read.ensures.printed_value ∙ not-true read.result.printed c.if-not-found.true)) c.malformed.ensures.prefix_len;
+      prefix_len = c.malformed.ensures.prefix_len;
       value = rw (← against_fails (output a.a.now a.a_closed a.a_flags.now) a.b.now (sym read.ensures.printed_value ∙ not-true read.result.printed c.if-not-found.true)) c.malformed.ensures.value;
       text_after = rw (← against_fails (output a.a.now a.a_closed a.a_flags.now) a.b.now (sym read.ensures.printed_value ∙ not-true read.result.printed c.if-not-found.true)) c.malformed.ensures.text_after;
     }
@@ -46,9 +45,9 @@ pub returns : goal.returns
 returns c =
     let a = c.args in
     let read = c.read_text-found in
-    let told = not-false read.result.printed c.if-not-found.false in
+    let told = (not-false read.result.printed c.if-not-found.false) in
     record {
-      prefix_len = rw (← second-read a.b.now (output a.a.now a.a_closed a.a_flags.now) (sym read.ensures.printed_value ∙ told) (read.ensures.kept told) c.segment_count-segments.ensures) c.put_compared.ensures.prefix_len;
+      prefix_len = c.put_compared.ensures.prefix_len;
       value = rw (← second-read a.b.now (output a.a.now a.a_closed a.a_flags.now) (sym read.ensures.printed_value ∙ told) (read.ensures.kept told) c.segment_count-segments.ensures) c.put_compared.ensures.value;
       text_after = rw (← second-read a.b.now (output a.a.now a.a_closed a.a_flags.now) (sym read.ensures.printed_value ∙ told) (read.ensures.kept told) c.segment_count-segments.ensures) c.put_compared.ensures.text_after;
     }

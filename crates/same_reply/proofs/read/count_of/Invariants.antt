@@ -1,8 +1,6 @@
 -- `read::count_of` meets its contract. Assumes nothing.
-use borrow.Author.Rules.{rules}
 use Prim.Native.Nat.{◌-◌}
-use native.Mathlib.Omega.{arith}
-use Rattle.same_reply.proofs.Reading.{Counting, counting_none, counting_stop, counting_turn, counting_done, below}
+use Rattle.same_reply.proofs.Reading.{Counting}
 use Rattle.same_reply.proofs.read.count_of.Given as goal
 
 abbrev pub invariant-loop-k : goal.invariant-loop-k

@@ -1,5 +1,4 @@
 -- `read::digit_of` meets its contract. Assumes nothing.
-use borrow.Author.Rules.{rules}
 use borrow.Author.Tests.{lt-ltb, le-ltb}
 use mathlib.Core.Path.{refl}
 use native.Mathlib.Omega.{arith}
@@ -10,13 +9,13 @@ use Rattle.same_reply.proofs.read.digit_of.Goals as goal
 pub returns-then-c-lt64 : goal.returns-then-c-lt64
 unfolding digit_of
 returns-then-c-lt64 c = record {
-      value = yes _ _ _ (lt-ltb _ _ c.if-c-lt64.true) refl;
-      upper_bound = omega arith;
-    }
+  value = yes _ _ _ (lt-ltb _ _ c.if-c-lt64.true) refl;
+  upper_bound = omega arith;
+}
 
 pub returns : goal.returns
 unfolding digit_of
 returns c = record {
-      value = no _ _ _ (le-ltb _ _ c.if-c-lt64.false) refl;
-      upper_bound = omega arith;
-    }
+  value = no _ _ _ (le-ltb _ _ c.if-c-lt64.false) refl;
+  upper_bound = omega arith;
+}

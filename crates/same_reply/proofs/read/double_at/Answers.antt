@@ -1,5 +1,4 @@
 -- `read::double_at` meets its contract. Assumes nothing.
-use borrow.Author.Rules.{rules}
 use Rattle.same_reply.specs.Read.{double_at}
 use Rattle.same_reply.proofs.read.double_at.Goals as goal
 

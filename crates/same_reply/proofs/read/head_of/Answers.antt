@@ -1,5 +1,4 @@
 -- `read::head_of` meets its contract. Assumes nothing.
-use borrow.Author.Rules.{rules}
 use mathlib.Core.Path.{◌≡◌}
 use native.Mathlib.Omega.{arith}
 use lib.ListN.{length}
@@ -11,7 +10,7 @@ pub returns : goal.returns
 unfolding lines_from
 returns c =
     let count = c.count_of-count in
-    let closed = c.Closed-of in
+    let closed = c.closed_of-closed in
     let put = c.put_head-lines in
     let lines : put.result ≡ length (head_of count.result closed.result) = omega arith in
     record {

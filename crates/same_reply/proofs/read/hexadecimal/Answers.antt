@@ -1,8 +1,6 @@
 -- `read::hexadecimal` meets its contract. Assumes nothing.
-use borrow.Author.Rules.{rules}
-use Prim.Native.Nat.{◌-◌}
 use native.Mathlib.Omega.{arith}
-use Rattle.same_reply.proofs.Reading.{Spelt, spelt_none, spelt_turn, spelt_done, room}
+use Rattle.same_reply.proofs.Reading.{spelt_none, spelt_turn, spelt_done, room}
 use Rattle.same_reply.proofs.read.hexadecimal.Goals as goal
 
 pub loop-k-init : goal.loop-k-init

@@ -1,8 +1,6 @@
 -- `read::hexadecimal` meets its contract. Assumes nothing.
-use borrow.Author.Rules.{rules}
 use Prim.Native.Nat.{◌-◌}
-use native.Mathlib.Omega.{arith}
-use Rattle.same_reply.proofs.Reading.{Spelt, spelt_none, spelt_turn, spelt_done, room}
+use Rattle.same_reply.proofs.Reading.{Spelt}
 use Rattle.same_reply.proofs.read.hexadecimal.Given as goal
 
 abbrev pub invariant-loop-k : goal.invariant-loop-k

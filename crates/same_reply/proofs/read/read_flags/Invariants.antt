@@ -1,12 +1,7 @@
 -- `read::read_flags` meets its contract. Assumes nothing.
-use borrow.Author.Rules.{rules}
-use mathlib.Core.List.{[], ◌∷◌}
-use mathlib.Core.Path.{refl, ◌∙◌}
 use Prim.Native.Nat.{◌-◌}
-use native.Mathlib.Omega.{arith}
-use Rattle.packed.proofs.Writing.{Writing, writing_done, writing_none, writing_turn}
+use Rattle.packed.proofs.Writing.{Writing}
 use Rattle.same_reply.specs.Read.{flags_at}
-use Rattle.same_reply.proofs.Reading.{length-flags, placed}
 use Rattle.same_reply.proofs.read.read_flags.Given as goal
 
 abbrev pub invariant-loop-k : goal.invariant-loop-k

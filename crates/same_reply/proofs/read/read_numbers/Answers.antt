@@ -1,10 +1,9 @@
 -- `read::read_numbers` meets its contract. Assumes nothing.
-use borrow.Author.Rules.{rules}
 use mathlib.Core.List.{[], ◌∷◌}
 use mathlib.Core.Path.{refl, ◌∙◌}
-use Prim.Native.Nat.{◌+◌, ◌-◌, ◌*◌}
+use Prim.Native.Nat.{◌+◌, ◌*◌}
 use native.Mathlib.Omega.{arith}
-use Rattle.packed.proofs.Writing.{Writing, writing_done, writing_none, writing_turn}
+use Rattle.packed.proofs.Writing.{writing_done, writing_none, writing_turn}
 use Rattle.same_reply.specs.Read.{double_at, numbers_at}
 use Rattle.same_reply.proofs.Reading.{length-numbers, placed}
 use Rattle.same_reply.proofs.read.read_numbers.Goals as goal

@@ -1,5 +1,4 @@
 -- `put_differences` meets its contract. Assumes nothing.
-use borrow.Author.Rules.{rules}
 use native.Mathlib.Omega.{arith}
 use Rattle.same_reply.proofs.Entries.{difference_rows}
 use Rattle.same_reply.proofs.text.put_differences.Goals as goal

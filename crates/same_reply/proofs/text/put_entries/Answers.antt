@@ -1,11 +1,9 @@
 -- `put_entries` meets its contract. Assumes nothing.
-use borrow.Author.Rules.{rules}
 use mathlib.Core.Path.{◌≡◌, refl}
-use Prim.Native.Nat.{◌+◌, ◌*◌, ◌-◌, ◌≤◌}
 use native.Mathlib.Numerals.{add-one}
 use native.Mathlib.Omega.{arith}
-use lib.ListN.{length, take, get_or}
-use Rattle.packed.proofs.Writing.{Writing, place-next, writing_done, writing_none, writing_turn}
+use lib.ListN.{take, get_or}
+use Rattle.packed.proofs.Writing.{place-next, writing_done, writing_none, writing_turn}
 use Rattle.same_reply.specs.Same.{entry_lines}
 use Rattle.same_reply.proofs.Entries.{line_for, entry-lines-next}
 use Rattle.same_reply.proofs.text.put_entries.Goals as goal

@@ -1,5 +1,4 @@
 -- `put_entry` meets its contract. Assumes nothing.
-use borrow.Author.Rules.{rules}
 use native.Mathlib.Omega.{arith}
 use Rattle.packed.specs.Text.{◌then◌, decimal_of, space, line_end}
 use Rattle.packed.proofs.Lines.{next_row}
