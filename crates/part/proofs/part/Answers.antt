@@ -10,7 +10,10 @@ use Rattle.part.proofs.Found.{end_of, answer-within}
 use Rattle.part.proofs.part.Goals as goal
 
 pub slice_bounds-result-end : goal.slice_bounds-result-end
-slice_bounds-result-end = part-result-end
+slice_bounds-result-end c =
+    let is = c.bounds-bounds.ensures ∙ ap bounds_of c.find-answer.ensures in
+    let w : end_of c.bounds-bounds.result ≤ length c.args.flags.now = rw is (answer-within _ _ _ _) in
+    omega arith
 
 pub returns : goal.returns
 unfolding flags_in stand_in
