@@ -1,5 +1,4 @@
 -- `create_raw_offset` meets its contract. Assumes nothing.
-use borrow.Author.Rules.{rules}
 use mathlib.Core.Path.{◌∙◌}
 use Rattle.reply.proofs.Texts.{by-round, by-pointed}
 use Rattle.reply.proofs.create_raw_offset.Goals as goal
