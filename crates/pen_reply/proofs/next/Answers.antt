@@ -6,27 +6,27 @@ use Rattle.pen_reply.proofs.next.Goals as goal
 pub returns-then-bytes-eq0 : goal.returns-then-bytes-eq0
 returns-then-bytes-eq0 c =
     record {
-      prefix_len = rw (next-end _ _ c.if-bytes-eq0.true) (c.end.ensures.prefix_len, (c.end.ensures.written_value, (c.end.ensures.text_after, c.end.ensures.job_value))).prefix_len;
-      written_value = rw (next-end _ _ c.if-bytes-eq0.true) (c.end.ensures.prefix_len, (c.end.ensures.written_value, (c.end.ensures.text_after, c.end.ensures.job_value))).written_value;
-      text_after = rw (next-end _ _ c.if-bytes-eq0.true) (c.end.ensures.prefix_len, (c.end.ensures.written_value, (c.end.ensures.text_after, c.end.ensures.job_value))).text_after;
-      bytes_value = rw (next-end _ _ c.if-bytes-eq0.true) (c.end.ensures.prefix_len, (c.end.ensures.written_value, (c.end.ensures.text_after, c.end.ensures.job_value))).bytes_value;
+      prefix_len = c.end.ensures.prefix_len;
+      written_value = rw (next-end _ _ c.if-bytes-eq0.true) c.end.ensures.written_value;
+      text_after = rw (next-end _ _ c.if-bytes-eq0.true) c.end.ensures.text_after;
+      bytes_value = rw (next-end _ _ c.if-bytes-eq0.true) c.end.ensures.job_value;
     }
 
 pub returns-then-bytes-eq24 : goal.returns-then-bytes-eq24
 returns-then-bytes-eq24 c =
     record {
-      prefix_len = rw (next-vertex _ _ c.if-bytes-eq0.false c.if-bytes-eq24.true) (c.draw.ensures.prefix_len, (c.draw.ensures.written_value, (c.draw.ensures.text_after, c.draw.ensures.bytes_value))).prefix_len;
-      written_value = rw (next-vertex _ _ c.if-bytes-eq0.false c.if-bytes-eq24.true) (c.draw.ensures.prefix_len, (c.draw.ensures.written_value, (c.draw.ensures.text_after, c.draw.ensures.bytes_value))).written_value;
-      text_after = rw (next-vertex _ _ c.if-bytes-eq0.false c.if-bytes-eq24.true) (c.draw.ensures.prefix_len, (c.draw.ensures.written_value, (c.draw.ensures.text_after, c.draw.ensures.bytes_value))).text_after;
-      bytes_value = rw (next-vertex _ _ c.if-bytes-eq0.false c.if-bytes-eq24.true) (c.draw.ensures.prefix_len, (c.draw.ensures.written_value, (c.draw.ensures.text_after, c.draw.ensures.bytes_value))).bytes_value;
+      prefix_len = c.draw.ensures.prefix_len;
+      written_value = rw (next-vertex _ _ c.if-bytes-eq0.false c.if-bytes-eq24.true) c.draw.ensures.written_value;
+      text_after = rw (next-vertex _ _ c.if-bytes-eq0.false c.if-bytes-eq24.true) c.draw.ensures.text_after;
+      bytes_value = rw (next-vertex _ _ c.if-bytes-eq0.false c.if-bytes-eq24.true) c.draw.ensures.bytes_value;
     }
 
 pub returns : goal.returns
 returns c =
-    let both = rw (next-malformed _ _ c.if-bytes-eq0.false c.if-bytes-eq24.false) (rw (c.number.ensures, c.place.ensures) at (c.refused.ensures.prefix_len, (c.refused.ensures.written_value, (c.refused.ensures.text_after, c.refused.ensures.place_value)))) in
+    let e = next-malformed _ _ c.if-bytes-eq0.false c.if-bytes-eq24.false in
     record {
-      prefix_len = both.0;
-      written_value = both.1.0;
-      text_after = both.1.1.0;
-      bytes_value = both.1.1.1;
+      prefix_len = c.refused.ensures.prefix_len;
+      written_value = rw e (rw (c.number.ensures, c.place.ensures) at c.refused.ensures.written_value);
+      text_after = rw e (rw (c.number.ensures, c.place.ensures) at c.refused.ensures.text_after);
+      bytes_value = rw e (rw (c.number.ensures, c.place.ensures) at c.refused.ensures.place_value);
     }

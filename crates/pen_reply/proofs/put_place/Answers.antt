@@ -8,16 +8,16 @@ use Rattle.pen_reply.proofs.Rows.{at-segment, at_last, at_none}
 use Rattle.pen_reply.proofs.put_place.Goals as goal
 
 pub vertex_at-v-requires : goal.vertex_at-v-requires
-vertex_at-v-requires c = omega (arith, length-vertices c.args.vertices.now, (c.requires.vertices_len, c.requires.i_bound))
+vertex_at-v-requires c = omega (arith, length-vertices c.args.vertices.now)
 
 pub returns-then-i-answer : goal.returns-then-i-answer
 returns-then-i-answer c =
     let a = c.args in
     let e = at-segment a.answer (vertices_of a.vertices.now) a.flags.now a.origins.now a.i c.if-i-answer.true c.vertex_at-v.ensures c.of_code.ensures in
     record {
-      value = rw (← e) (c.put_segment.ensures.value, (c.put_segment.ensures.upper_bound, c.put_segment.ensures.out_after)).value;
-      upper_bound = rw (← e) (c.put_segment.ensures.value, (c.put_segment.ensures.upper_bound, c.put_segment.ensures.out_after)).upper_bound;
-      out_after = rw (← e) (c.put_segment.ensures.value, (c.put_segment.ensures.upper_bound, c.put_segment.ensures.out_after)).out_after;
+      value = rw (← e) c.put_segment.ensures.value;
+      upper_bound = c.put_segment.ensures.upper_bound;
+      out_after = rw (← e) c.put_segment.ensures.out_after;
     }
 
 pub returns-then-i-answer-2 : goal.returns-then-i-answer-2
@@ -25,20 +25,18 @@ returns-then-i-answer-2 c =
     let a = c.args in
     let e = at_last a.answer (vertices_of a.vertices.now) a.flags.now a.origins.now a.i c.if-i-answer.false c.if-i-answer-2.true c.vertex_at-v.ensures in
     let p = c.put_last.ensures in
-    let both = rw (← e) (p.value, (omega arith, p.out_after)) in
     record {
-      value = both.0;
-      upper_bound = both.1.0;
-      out_after = both.1.1;
+      value = rw (← e) p.value;
+      upper_bound = omega arith;
+      out_after = rw (← e) p.out_after;
     }
 
 pub returns : goal.returns
 returns c =
     let a = c.args in
     let e = at_none a.answer (vertices_of a.vertices.now) a.flags.now a.origins.now a.i c.if-i-answer.false c.if-i-answer-2.false in
-    let both = rw (← e) (omega arith, (omega arith, refl)) in
     record {
-      value = both.0;
-      upper_bound = both.1.0;
-      out_after = both.1.1;
+      value = rw (← e) (omega arith);
+      upper_bound = omega arith;
+      out_after = rw (← e);
     }
