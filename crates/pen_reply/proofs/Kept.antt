@@ -1,8 +1,8 @@
 -- No line is lost: a step hands out three segments at most, so that each has its place; and a vertex that is refused, or an end that is, hands out nothing, so that the refusal is all that
 -- there is to print. Assumes nothing.
-use mathlib.Core.Path.{◌≡◌, refl, sym, ap}
-use mathlib.Core.Bool.{Bool, true, false, not}
-use mathlib.Core.List.{List, []}
+use mathlib.Core.Path.{◌≡◌, refl}
+use mathlib.Core.Bool.{Bool, true, false}
+use mathlib.Core.List.{List}
 use lib.Dec.{eqb}
 use Rattle.floats.specs.Choice.{when◌give◌else◌}
 use Prim.Native.Nat.{ℕ, ◌≤◌}

@@ -1,6 +1,6 @@
 -- The text of what a call hands out: each place of the buffers by itself, and the three in a row. Assumes nothing.
 use mathlib.Core.Path.{◌≡◌, refl, sym, ap, ◌∙◌}
-use mathlib.Core.Bool.{Bool, true, false}
+use mathlib.Core.Bool.{true, false}
 use mathlib.Core.List.{List, [], ◌∷◌, ◌++◌}
 use Prim.Native.Nat.{ℕ, zero, suc, ◌+◌, ◌<◌, ◌≤◌}
 use native.Mathlib.Nat.{zero-add}
@@ -15,7 +15,7 @@ use Rattle.moves.specs.declared.Origin.{Origin}
 use Rattle.moves.specs.Origins.{origin_of, origins_in}
 use Rattle.sheet.specs.Buffers.{no_origin}
 use Rattle.packed.specs.Text.{space, line_end, head_of, mark_of, row_of, origin_line}
-use Rattle.packed.proofs.Writing.{sets_next, sets_front, place-next}
+use Rattle.packed.proofs.Writing.{sets_front}
 use Rattle.packed.proofs.Lines.{Shown, shown, two-rows, next_row, length-row}
 use Rattle.pieces.specs.declared.DrawAnswer.{DrawAnswer}
 use Rattle.pen_reply.specs.Pen.{segment_line, last_line, place_text, piece_text, closing_text}

@@ -4,7 +4,7 @@ use mathlib.Core.Bool.{Bool, true, false, not}
 use mathlib.Core.List.{List, []}
 use Prim.Native.Nat.{ℕ}
 use borrow.Author.Tests.{eq-eqb, ne_eqb, eqb-true, not-true, not-false}
-use lib.ListN.{length, drop}
+use lib.ListN.{length}
 use lib.Ieee.{Float}
 use Rattle.floats.proofs.Choice.{yes, no, both_pass}
 use Rattle.floats.specs.Binary64.{zero}
@@ -15,8 +15,8 @@ use Rattle.sheet.specs.Buffers.{Buffers}
 use Rattle.packed.specs.Text.{refusal_of}
 use Rattle.pieces.specs.declared.OpenJob.{OpenJob}
 use Rattle.pieces.specs.declared.DrawAnswer.{DrawAnswer}
-use Rattle.pieces.specs.Calls.{Started, started, start_call, Called, called, draw_call, end_call}
-use Rattle.pen_reply.specs.Pen.{well_formed, settings_in, numbers_in, piece_text, closing_text, segments_before, Said, said, blank, malformed, no_job, start_said, draw_said, end_said, begin_of, draw_of, end_of, next_of}
+use Rattle.pieces.specs.Calls.{Started, started, start_call, called, draw_call, end_call}
+use Rattle.pen_reply.specs.Pen.{well_formed, settings_in, numbers_in, piece_text, closing_text, segments_before, said, blank, malformed, start_said, draw_said, end_said, begin_of, draw_of, end_of, next_of}
 
 -- ---- the head
 

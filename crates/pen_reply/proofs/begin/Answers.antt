@@ -1,5 +1,4 @@
 -- `begin` meets its contract. Assumes nothing.
-use borrow.Author.Rules.{rules}
 use mathlib.Core.List.{[]}
 use mathlib.Core.Bool.{not}
 use mathlib.Core.Path.{refl, ap}

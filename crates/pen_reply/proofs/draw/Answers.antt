@@ -1,6 +1,4 @@
 -- `draw` meets its contract. Assumes nothing.
-use borrow.Author.Rules.{rules}
-use mathlib.Core.Path.{refl}
 use Rattle.pen_reply.proofs.Steps.{draw-refused, draw-done}
 use Rattle.pen_reply.proofs.draw.Goals as goal
 

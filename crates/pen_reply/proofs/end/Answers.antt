@@ -1,6 +1,4 @@
 -- `end` meets its contract. Assumes nothing.
-use borrow.Author.Rules.{rules}
-use mathlib.Core.Path.{refl}
 use Rattle.pen_reply.proofs.Steps.{end_refused, end-done}
 use Rattle.pen_reply.proofs.end.Goals as goal
 

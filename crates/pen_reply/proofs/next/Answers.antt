@@ -1,5 +1,4 @@
 -- `next` meets its contract. Assumes nothing.
-use borrow.Author.Rules.{rules}
 use Rattle.pen_reply.proofs.Steps.{next-end, next-vertex, next-malformed}
 use Rattle.pen_reply.proofs.next.Goals as goal
 
@@ -23,7 +22,7 @@ returns-then-bytes-eq24 c =
 
 pub returns : goal.returns
 returns c =
-    let e = next-malformed _ _ c.if-bytes-eq0.false c.if-bytes-eq24.false in
+    let e = next-malformed c.args.job c.args.bytes.now c.if-bytes-eq0.false c.if-bytes-eq24.false in
     record {
       prefix_len = c.refused.ensures.prefix_len;
       written_value = rw e (rw (c.number.ensures, c.place.ensures) at c.refused.ensures.written_value);

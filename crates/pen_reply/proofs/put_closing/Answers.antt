@@ -1,5 +1,4 @@
 -- `put_closing` meets its contract. Assumes nothing.
-use borrow.Author.Rules.{rules}
 use native.Mathlib.Omega.{arith}
 use Rattle.pen_reply.proofs.Rows.{closing-shown}
 use Rattle.pen_reply.proofs.put_closing.Goals as goal

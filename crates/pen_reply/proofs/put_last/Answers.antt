@@ -1,5 +1,4 @@
 -- `put_last` meets its contract. Assumes nothing.
-use borrow.Author.Rules.{rules}
 use native.Mathlib.Omega.{arith}
 use Rattle.pen_reply.proofs.Rows.{length_last, last}
 use Rattle.pen_reply.proofs.put_last.Goals as goal

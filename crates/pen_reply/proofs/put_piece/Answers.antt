@@ -1,5 +1,4 @@
 -- `put_piece` meets its contract. Assumes nothing.
-use borrow.Author.Rules.{rules}
 use native.Mathlib.Omega.{arith}
 use Rattle.pen_reply.proofs.Rows.{piece-shown}
 use Rattle.pen_reply.proofs.put_piece.Goals as goal

@@ -1,6 +1,4 @@
 -- `put_place` meets its contract. Assumes nothing.
-use borrow.Author.Rules.{rules}
-use mathlib.Core.Path.{refl}
 use native.Mathlib.Omega.{arith}
 use Rattle.source.specs.Source.{vertices_of}
 use Rattle.source.proofs.Source.{length-vertices}

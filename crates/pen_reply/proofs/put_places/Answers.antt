@@ -1,5 +1,4 @@
 -- `put_places` meets its contract. Assumes nothing.
-use borrow.Author.Rules.{rules}
 use native.Mathlib.Omega.{arith}
 use Rattle.pen_reply.proofs.Rows.{three-places}
 use Rattle.pen_reply.proofs.put_places.Goals as goal

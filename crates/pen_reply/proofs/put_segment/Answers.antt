@@ -1,5 +1,4 @@
 -- `put_segment` meets its contract. Assumes nothing.
-use borrow.Author.Rules.{rules}
 use native.Mathlib.Omega.{arith}
 use Rattle.pen_reply.proofs.Rows.{segment}
 use Rattle.pen_reply.proofs.put_segment.Goals as goal

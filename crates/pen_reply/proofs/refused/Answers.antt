@@ -1,5 +1,4 @@
 -- `refused` meets its contract. Assumes nothing.
-use borrow.Author.Rules.{rules}
 use mathlib.Core.Path.{refl}
 use Rattle.pen_reply.proofs.refused.Goals as goal
 

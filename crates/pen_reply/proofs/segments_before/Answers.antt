@@ -1,5 +1,4 @@
 -- `segments_before` meets its contract. Assumes nothing.
-use borrow.Author.Rules.{rules}
 use mathlib.Core.Path.{refl}
 use native.Mathlib.Omega.{arith}
 use Rattle.floats.proofs.Choice.{yes, no}
