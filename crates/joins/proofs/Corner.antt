@@ -20,7 +20,6 @@ use Rattle.segments.specs.declared.RawOffsetSeg.{RawOffsetSeg}
 use Rattle.segments.specs.declared.RawOffsetSeg.TheVariants.{Line, Arc, Collapsed}
 use Rattle.segments.specs.Modes.{are_pointed}
 use Rattle.meetings.specs.declared.Met.{Met}
-use Rattle.meetings.specs.declared.Met.TheVariants as Met
 use Rattle.meetings.specs.Meetings.{line_line_meeting, line_arc_meeting, arc_line_meeting, arc_arc_meeting}
 use Rattle.joins.specs.declared.JoinCause.{JoinCause}
 use Rattle.joins.specs.declared.JoinCause.TheVariants as Cause
@@ -29,7 +28,7 @@ use Rattle.joins.specs.Corner.{is_outer_turn, is_pointed, within_ratio, pointed_
 use Rattle.joins.specs.declared.JoinTurn.{JoinTurn}
 use Rattle.joins.specs.declared.JoinTurn.TheVariants as Turn
 use Rattle.joins.specs.Join.{rounded, trimmed_by, inner_join, turn_of, join_by, join_of}
-use Rattle.joins.specs.Rules.{of_meeting, ruled_boundary, ruled_join, forgotten}
+use Rattle.joins.specs.Rules.{ruled_boundary, ruled_join, forgotten}
 use Rattle.joins.specs.InnerSteps.{class_of, ConnectorBound}
 use Rattle.joins.proofs.Rules.{forgets}
 use Rattle.joins.proofs.Made.{is_one_point, zero_bound, join_bound, near-one-point, near-class, join_unpointed}

@@ -26,7 +26,6 @@ use Rattle.joins.specs.declared.JoinCause.{JoinCause}
 use Rattle.joins.specs.declared.JoinCause.TheVariants as Cause
 use Rattle.joins.specs.declared.JoinBoundary.{JoinBoundary}
 use Rattle.joins.specs.declared.Settled.{Settled}
-use Rattle.joins.specs.declared.Settled.TheVariants as Settled
 use Rattle.joins.specs.Boundary.{straight, trimmed}
 use Rattle.joins.specs.Join.{join_by}
 use Rattle.joins.specs.Rules.{telling}

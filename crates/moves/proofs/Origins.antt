@@ -9,7 +9,6 @@ use lib.Dec.{eqb}
 use lib.ListN.{length, set, take, drop, replicate, length-map}
 use Rattle.floats.specs.Choice.{when◌give◌else◌}
 use Rattle.floats.proofs.Choice.{yes, no}
-use Rattle.segments.specs.declared.SourceSegment.{SourceSegment}
 use Rattle.moves.specs.declared.Origin.{Origin}
 use Rattle.moves.specs.declared.Origin.TheVariants.{Span, Connector}
 use Rattle.moves.specs.Made.{segment_of}

@@ -7,7 +7,7 @@ use native.Mathlib.Omega.{arith}
 use lib.ListN.{length}
 use Rattle.segments.specs.declared.PlineVertex.{PlineVertex}
 use Rattle.source.specs.Source.{segments_of}
-use Rattle.source.proofs.Segments.{segments-closed, segments_open, segments-most}
+use Rattle.source.proofs.Segments.{segments-closed, segments_open}
 use Rattle.moves.specs.declared.Origin.{Origin}
 use Rattle.walk.specs.Walk.{spans_from, copied}
 use Rattle.walk.proofs.Origins.{length_spans}

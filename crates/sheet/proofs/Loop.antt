@@ -7,7 +7,7 @@ use native.Mathlib.Omega.{arith}
 use lib.ListN.{length, replicate, length-append}
 use lib.Ieee.{Float}
 use Rattle.floats.specs.Binary64 as B
-use Rattle.floats.specs.Choice.{when◌give◌else◌, ◌and◌}
+use Rattle.floats.specs.Choice.{when◌give◌else◌}
 use Rattle.angles.specs.Angle.{bulge_of}
 use Rattle.segments.specs.declared.PlineVertex.{PlineVertex}
 use Rattle.segments.specs.declared.Settings.{Settings}

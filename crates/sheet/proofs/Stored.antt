@@ -16,11 +16,11 @@ use Rattle.segments.specs.Vertex.{vertex_at}
 use Rattle.moves.specs.declared.Move.{Move}
 use Rattle.moves.specs.declared.Stroke.{Stroke}
 use Rattle.moves.specs.Reason.{is_invalid, invalid_move}
-use Rattle.moves.specs.Drawing.{Drawing, corners, flags_of, marks, mark, bit, origins_of, finite_vertex, all_finite}
+use Rattle.moves.specs.Drawing.{corners, flags_of, marks, mark, bit, origins_of, finite_vertex, all_finite}
 use Rattle.moves.specs.InnerSteps.{strokes, sure}
 use Rattle.moves.proofs.Laws.{bit-small}
 use Rattle.moves.proofs.Shapes.{path, path_fits}
-use Rattle.sheet.specs.InnerSteps.{Contents, contents, fitting, making, no_places, Reached, Laid, laid, stored, stores, over, over_at, written}
+use Rattle.sheet.specs.InnerSteps.{Contents, fitting, making, no_places, Reached, Laid, laid, stored, stores, over, written}
 
 pub stores-append : (ss ts : List Stroke) (l : Laid) → stores (ss ++ ts) l ≡ stores ts (stores ss l)
 unfolding stores

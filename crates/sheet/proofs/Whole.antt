@@ -22,7 +22,7 @@ use Rattle.moves.specs.declared.Move.{Move}
 use Rattle.moves.specs.declared.Stroke.{Stroke}
 use Rattle.moves.specs.Made.{connector_move, connector_moves}
 use Rattle.moves.specs.Drawing.{Drawing, nothing, move_end, kept, last_point, corners, flags_of, marks, origins_of, drawn_open, drawn_closed, finite_vertex, all_finite, empty_result, result_of}
-use Rattle.moves.specs.InnerSteps.{step_of, strokes, Fits}
+use Rattle.moves.specs.InnerSteps.{step_of, Fits}
 use Rattle.moves.proofs.Kept.{length-kept}
 use Rattle.moves.proofs.Tips.{either_tip}
 use Rattle.moves.proofs.Lists.{length-corners, length-flags_of}

@@ -22,7 +22,6 @@ use Rattle.segments.specs.declared.Settings.{Settings}
 use Rattle.segments.specs.Vertex.{pos_of}
 use Rattle.segments.specs.Segment.{offset_seg, start_of, end_of, is_collapsed}
 use Rattle.meetings.specs.declared.Met.{Met}
-use Rattle.meetings.specs.declared.Met.TheVariants as Met
 use Rattle.meetings.specs.Meetings.{line_line_meeting, line_arc_meeting, arc_line_meeting, arc_arc_meeting}
 use Rattle.joins.specs.declared.JoinTurn.{JoinTurn}
 use Rattle.joins.specs.declared.JoinTurn.TheVariants as Turn
@@ -32,7 +31,7 @@ use Rattle.joins.specs.Join.{rounded, trimmed_by, inner_join, turn_of, join_by, 
 use Rattle.joins.specs.Rules.{ruled_boundary}
 use Rattle.joins.specs.Corner.{cornered, corner_join, Sharp}
 use Rattle.joins.proofs.Made.{collapsed_never_meets}
-use Rattle.joins.proofs.Corner.{Cornered, corner-made, sharp_made, never_both, corner-ends, corner_edges, outer_turn}
+use Rattle.joins.proofs.Corner.{Cornered, corner-made, sharp_made, never_both, corner-ends, outer_turn}
 use Rattle.joins.proofs.Corner.Cornered.{same, sharp}
 use Rattle.moves.specs.declared.Move.{Move}
 use Rattle.moves.specs.declared.Reason.{Reason}

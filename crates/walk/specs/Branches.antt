@@ -12,7 +12,6 @@ use Rattle.segments.specs.declared.RawOffsetSeg.TheVariants.{Line, Arc, Collapse
 use Rattle.segments.specs.Segment.{is_collapsed}
 use Rattle.meetings.specs.declared.Meeting.{Meeting}
 use Rattle.meetings.specs.declared.Met.{Met}
-use Rattle.meetings.specs.declared.Met.TheVariants as Met
 use Rattle.meetings.specs.Meetings.{line_line_meeting, line_arc_meeting, arc_line_meeting, arc_arc_meeting}
 use Rattle.joins.specs.declared.JoinTurn.TheVariants as Turn
 use Rattle.joins.specs.Join.{turn_of}

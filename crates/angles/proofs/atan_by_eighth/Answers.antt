@@ -1,5 +1,4 @@
 -- `atan_by_eighth` meets its contract. Assumes nothing.
-use borrow.Author.Rules.{rules}
 use Rattle.angles.specs.Angle.{atan_by_eighth}
 use Rattle.angles.proofs.Tables.{atan-bits}
 use Rattle.angles.proofs.atan_by_eighth.Goals as goal

@@ -1,11 +1,7 @@
 -- `horner_walk`: the loop keeps that the steps still to come give the table's value. Assumes nothing.
-use mathlib.Core.Path.{◌≡◌, ◌∙◌}
-use Prim.Native.Nat.{◌-◌}
-use native.Mathlib.Omega.{arith}
-use borrow.Author.Rules.{rules}
+use mathlib.Core.Path.{◌≡◌}
 use lib.ListN.{drop}
 use Rattle.angles.specs.Angle.{horner_from, horner}
-use Rattle.angles.proofs.Walk.{walk_start_lem, walk-next, walk_end}
 use Rattle.angles.proofs.horner_walk.Given as goal
 
 abbrev pub invariant-loop-i : goal.invariant-loop-i

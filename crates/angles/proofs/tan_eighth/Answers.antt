@@ -1,5 +1,4 @@
 -- `tan_eighth` meets its contract. Assumes nothing.
-use borrow.Author.Rules.{rules}
 use Rattle.angles.specs.Angle.{tan_eighth}
 use Rattle.angles.proofs.Tables.{sin_bits_lem, cos_bits_lem}
 use Rattle.angles.proofs.tan_eighth.Goals as goal

@@ -1,5 +1,4 @@
 -- `bits_of` meets its contract. Assumes nothing.
-use borrow.Author.Rules.{rules}
 use lib.Ieee.{to_bits}
 use Rattle.bits.proofs.Nans.{is-nan, no_nan}
 use Rattle.bits.proofs.bits_of.Goals as goal

@@ -1,6 +1,5 @@
 -- `number_of` meets its contract. Assumes nothing.
 use mathlib.Core.Path.{◌∙◌}
-use borrow.Author.Rules.{rules}
 use Rattle.bits.proofs.Nans.{above, not-above, made}
 use Rattle.bits.proofs.number_of.Goals as goal
 

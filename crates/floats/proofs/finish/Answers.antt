@@ -1,5 +1,5 @@
 -- `floats::finish` meets its contract. Assumes nothing.
-use Rattle.std.proofs.Common.{◌+◌, ◌/◌, ◌%◌, ◌^◌, ◌<◌, arith, rules}
+use Rattle.std.proofs.Common.{◌+◌, ◌/◌, ◌%◌, ◌^◌, ◌<◌, arith}
 use Rattle.floats.proofs.Reading.{no_nan}
 use Rattle.floats.proofs.Even.{evened_hi, result-lt, result-is}
 use Rattle.floats.proofs.finish.Goals.{After-root-r}

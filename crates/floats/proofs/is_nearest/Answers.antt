@@ -1,5 +1,5 @@
 -- `floats::is_nearest` meets its contract. Assumes nothing.
-use Rattle.std.proofs.Common.{◌≡◌, ℕ, ◌+◌, ◌*◌, ◌/◌, ◌%◌, ◌^◌, ◌<◌, true, false, arith, rules, ltb-true, lt-ltb}
+use Rattle.std.proofs.Common.{◌≡◌, ℕ, ◌+◌, ◌*◌, ◌/◌, ◌%◌, ◌^◌, ◌<◌, false, arith, ltb-true, lt-ltb}
 use mathlib.Core.Bool.{false≢true}
 use Rattle.floats.specs.InnerSteps.{NearRoot, Tells}
 use Rattle.floats.proofs.Residue.{product_lt, unwrapped}

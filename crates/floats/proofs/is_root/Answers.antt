@@ -1,5 +1,5 @@
 -- `floats::is_root` meets its contract. Assumes nothing.
-use Rattle.std.proofs.Common.{◌≡◌, ◌+◌, ◌-◌, ◌*◌, ◌/◌, ◌%◌, ◌^◌, sym, ap, ◌∙◌, arith, rules}
+use Rattle.std.proofs.Common.{◌≡◌, ◌+◌, ◌-◌, ◌*◌, ◌/◌, ◌%◌, ◌^◌, sym, ap, ◌∙◌, arith}
 use mathlib.Core.Bool.{false≢true}
 use lib.Ieee.{binary64, of_bits}
 use Rattle.floats.proofs.Residue.{unwrapped}

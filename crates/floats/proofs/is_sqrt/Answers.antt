@@ -1,5 +1,5 @@
 -- `floats::is_sqrt` meets its contract. Assumes nothing.
-use Rattle.std.proofs.Common.{T, sym, ap, ◌∙◌, subst, rules}
+use Rattle.std.proofs.Common.{T, sym, ap, ◌∙◌, subst}
 use mathlib.Core.Bool.{false≢true}
 use lib.Ieee.{binary64, fits}
 use lib.Ieee.Bits.{of_bits-to_bits}

@@ -1,5 +1,4 @@
 -- `floats::last_digits` meets its contract. Assumes nothing.
-use Rattle.std.proofs.Common.{rules}
 use Rattle.floats.proofs.Reading.{above_no_nan}
 use Rattle.floats.proofs.last_digits.Goals as goal
 

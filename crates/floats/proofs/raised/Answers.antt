@@ -1,5 +1,5 @@
 -- `floats::raised` meets its contract. Assumes nothing.
-use Rattle.std.proofs.Common.{arith, rules}
+use Rattle.std.proofs.Common.{arith}
 use lib.Count.{leading_le}
 use Rattle.floats.proofs.Reading.{root-of-bits, root-of-low, Brought, brought}
 use Rattle.floats.proofs.raised.Goals.{Else-b-ge-HID}

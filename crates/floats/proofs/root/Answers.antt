@@ -1,5 +1,5 @@
 -- `floats::root` meets its contract: where it does not take the slow way, it knows by how much w * 2 ^ 52 exceeds q * q (`excess`). Assumes nothing.
-use Rattle.std.proofs.Common.{◌≡◌, ℕ, ◌+◌, ◌*◌, ◌/◌, ◌^◌, ◌<◌, sym, subst, arith, rules}
+use Rattle.std.proofs.Common.{◌≡◌, ℕ, ◌+◌, ◌*◌, ◌/◌, ◌^◌, ◌<◌, sym, subst, arith}
 use Rattle.floats.specs.InnerSteps.{NearRoot}
 use Rattle.floats.proofs.Residue.{product_lt, upper, lower, unwrapped, excess}
 use Rattle.floats.proofs.root.Goals.{Start, Then-d-lt-P32, Then-rest-q}

@@ -1,5 +1,5 @@
 -- `floats::slow_root` meets its contract. The loop's invariant is `Inv` of `proofs/Digits.antt`, and its measure is the number of turns to come. Assumes nothing.
-use Rattle.std.proofs.Common.{◌≡◌, ℕ, ◌+◌, ◌-◌, ◌*◌, ◌/◌, ◌%◌, ◌^◌, subst, ⊎_elim, arith}
+use Rattle.std.proofs.Common.{◌≡◌, ℕ, ◌+◌, ◌-◌, ◌*◌, ◌/◌, ◌%◌, ◌^◌, subst, arith}
 use Rattle.floats.proofs.Digits.{Inv, start, turn_odd, turn_even, end}
 use Rattle.floats.proofs.slow_root.Goals.{else-t-e, then-t-e}
 use Rattle.floats.proofs.slow_root.Goals as goal

@@ -1,6 +1,5 @@
 -- `joins::analyze_join` meets its contract. Assumes nothing.
 use mathlib.Core.Path.{refl, sym, ◌∙◌}
-use borrow.Author.Rules.{rules}
 use Rattle.joins.proofs.Seen.{unseen_joins, join-seen}
 use Rattle.joins.proofs.analyze_join.Goals as goal
 

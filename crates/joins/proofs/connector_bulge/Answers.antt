@@ -18,7 +18,7 @@ normalize_by-next_direction-requires c = ap (λ (r : Roots). r.second) c.roots_n
 
 pub returns-then-offset : goal.returns-then-offset
 unfolding connector_bulge_of
-returns-then-offset c = yes _ _ _ c.if-offset.true (simp ( c.bulge_size-size.ensures, c.clamp_sin-sin_sweep.ensures, c.abs-2.ensures, c.perp_dot.ensures, c.clamp_cos-cos_sweep.ensures, c.dot.ensures, c.normalize_by-next_direction.ensures, c.normalize_by-current_direction.ensures, c.sub-to_start.ensures, c.sub-to_end.ensures, ))
+returns-then-offset c = yes _ _ _ c.if-offset.true (simp (c.bulge_size-size.ensures, c.clamp_sin-sin_sweep.ensures, c.abs-2.ensures, c.perp_dot.ensures, c.clamp_cos-cos_sweep.ensures, c.dot.ensures, c.normalize_by-next_direction.ensures, c.normalize_by-current_direction.ensures, c.sub-to_start.ensures, c.sub-to_end.ensures))
 
 pub returns : goal.returns
 unfolding connector_bulge_of

@@ -1,6 +1,5 @@
 -- `joins::corner_from_line` meets its contract. Assumes nothing.
 use mathlib.Core.Path.{refl}
-use borrow.Author.Rules.{rules}
 use Rattle.joins.proofs.corner_from_line.Goals as goal
 
 pub returns-in-Line : goal.returns-in-Line

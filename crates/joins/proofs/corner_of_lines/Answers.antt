@@ -1,6 +1,5 @@
 -- `joins::corner_of_lines` meets its contract. Assumes nothing.
 use mathlib.Core.Path.{refl, sym, ◌∙◌}
-use borrow.Author.Rules.{rules}
 use Rattle.joins.proofs.corner_of_lines.Goals as goal
 
 pub returns-in-NoIntersect : goal.returns-in-NoIntersect

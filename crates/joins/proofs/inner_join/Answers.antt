@@ -1,6 +1,5 @@
 -- `joins::inner_join` meets its contract. Assumes nothing.
 use mathlib.Core.Path.{subst}
-use borrow.Author.Rules.{rules}
 use Rattle.segments.specs.declared.RawOffsetSeg.TheVariants.{Arc}
 use Rattle.segments.specs.InnerSteps.{full_seg}
 use Rattle.meetings.specs.declared.SeenArc.{SeenArc}

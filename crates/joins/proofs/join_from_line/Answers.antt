@@ -1,6 +1,5 @@
 -- `joins::join_from_line` meets its contract. Assumes nothing.
 use mathlib.Core.Path.{ap, ◌∙◌}
-use borrow.Author.Rules.{rules}
 use Rattle.segments.specs.declared.RawOffsetArc.{RawOffsetArc}
 use Rattle.segments.specs.declared.RawOffsetSeg.TheVariants.{Line}
 use lib.Ieee.{Float}

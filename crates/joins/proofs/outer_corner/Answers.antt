@@ -1,7 +1,5 @@
 -- `joins::outer_corner` meets its contract. Assumes nothing.
-use mathlib.Core.Path.{refl, sym, ◌∙◌}
-use borrow.Author.Rules.{rules}
-use borrow.Author.Tests.{not-true}
+use mathlib.Core.Path.{sym, ◌∙◌}
 use Rattle.joins.proofs.Corner.{mode-is, round_same}
 use Rattle.joins.proofs.outer_corner.Goals as goal
 

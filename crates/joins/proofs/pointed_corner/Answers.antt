@@ -1,7 +1,5 @@
 -- `joins::pointed_corner` meets its contract. Assumes nothing.
 use mathlib.Core.Path.{refl}
-use borrow.Author.Rules.{rules}
-use borrow.Author.Tests.{not-true, not-false}
 use Rattle.floats.proofs.Choice.{yes, no, told}
 use Rattle.joins.proofs.pointed_corner.Goals as goal
 

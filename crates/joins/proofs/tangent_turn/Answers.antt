@@ -12,4 +12,4 @@ returns-then-either_at_most c = yes _ _ _ (tested c.if-either_at_most.true (simp
 
 pub returns : goal.returns
 unfolding tangent_turn last_turn
-returns c = no _ _ _ (tested c.if-either_at_most.false (simp ( c.either_at_most.ensures, c.length_squared-outgoing_len_sq.ensures, c.length_squared-incoming_len_sq.ensures, ))) (simp ( c.last_turn.ensures, c.dot-alignment.ensures, c.perp_dot-turn.ensures, c.length_squared-outgoing_len_sq.ensures, c.length_squared-incoming_len_sq.ensures, ))
+returns c = no _ _ _ (tested c.if-either_at_most.false (simp (c.either_at_most.ensures, c.length_squared-outgoing_len_sq.ensures, c.length_squared-incoming_len_sq.ensures))) (simp (c.last_turn.ensures, c.dot-alignment.ensures, c.perp_dot-turn.ensures, c.length_squared-outgoing_len_sq.ensures, c.length_squared-incoming_len_sq.ensures))

@@ -1,5 +1,4 @@
 -- `joins::trimmed_or_gap` meets its contract. Assumes nothing.
-use borrow.Author.Rules.{rules}
 use Rattle.joins.proofs.trimmed_or_gap.Goals as goal
 
 pub returns-in-At : goal.returns-in-At

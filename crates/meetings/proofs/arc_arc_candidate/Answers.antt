@@ -8,15 +8,15 @@ use Rattle.meetings.proofs.arc_arc_candidate.Goals as goal
 
 pub arc_param_at-on_current-requires : goal.arc_param_at-on_current-requires
 arc_param_at-on_current-requires c = record {
-      start_angle_value = rw c.starts_and_point-seen.ensures;
-      off_ends = λ apart. (c.arc_arc_point-snapped.ensures.off_ends apart).0;
-    }
+  start_angle_value = rw c.starts_and_point-seen.ensures;
+  off_ends = λ apart. (c.arc_arc_point-snapped.ensures.off_ends apart).0;
+}
 
 pub arc_param_at-on_next-requires : goal.arc_param_at-on_next-requires
 arc_param_at-on_next-requires c = record {
-      start_angle_value = rw c.starts_and_point-seen.ensures;
-      off_ends = λ apart. (c.arc_arc_point-snapped.ensures.off_ends apart).1;
-    }
+  start_angle_value = rw c.starts_and_point-seen.ensures;
+  off_ends = λ apart. (c.arc_arc_point-snapped.ensures.off_ends apart).1;
+}
 
 pub returns : goal.returns
 unfolding arc_arc_candidate usable_arc_param arc_param_at

@@ -1,6 +1,5 @@
 -- `arc_line_meeting` meets its contract. Assumes nothing.
 use mathlib.Core.Path.{refl}
-use borrow.Author.Rules.{rules}
 use Rattle.meetings.specs.Meetings.{arc_line_meeting}
 use Rattle.meetings.proofs.Ruled.{ruled-exchanged}
 use Rattle.meetings.proofs.arc_line_meeting.Goals as goal

@@ -19,7 +19,7 @@ enum_told-1 c = search rules
 
 pub returns-in-Usable : goal.returns-in-Usable
 unfolding line_arc_at
-returns-in-Usable c = rw ( ruled_where, ← c.sub.ensures, ← c.length_squared.ensures, ← c.usable_line_param-line_param.ensures, c.in-Usable.is, ← c.line_arc_point.ensures.point_value, ) c.with_arc_param.ensures
+returns-in-Usable c = rw (ruled_where, ← c.sub.ensures, ← c.length_squared.ensures, ← c.usable_line_param-line_param.ensures, c.in-Usable.is, ← c.line_arc_point.ensures.point_value) c.with_arc_param.ensures
 
 pub returns-in-Missed : goal.returns-in-Missed
 unfolding line_arc_at

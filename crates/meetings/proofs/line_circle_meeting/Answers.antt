@@ -1,6 +1,5 @@
 -- `line_circle_meeting` meets its contract. Assumes nothing.
 use mathlib.Core.Path.{◌≡◌, refl}
-use borrow.Author.Rules.{rules}
 use lib.Ieee.{Float}
 use Rattle.vectors.specs.declared.Vector2.{Vector2}
 use Rattle.intersections.specs.LineCircle.{line_circle}

@@ -7,9 +7,9 @@ use Rattle.meetings.proofs.usable_arc_param.Goals as goal
 pub arc_param_at-requires : goal.arc_param_at-requires
 unfolding usable_arc_param arc_param_at
 arc_param_at-requires c = record {
-      start_angle_value = rw c.start_and_point-seen.ensures;
-      off_ends = λ h. absurd (false≢true h);
-    }
+  start_angle_value = rw c.start_and_point-seen.ensures;
+  off_ends = λ h. absurd (false≢true h);
+}
 
 pub returns : goal.returns
 unfolding usable_arc_param arc_param_at

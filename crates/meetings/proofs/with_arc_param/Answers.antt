@@ -6,9 +6,9 @@ use Rattle.meetings.proofs.with_arc_param.Goals as goal
 
 pub arc_param_at-granted-requires : goal.arc_param_at-granted-requires
 arc_param_at-granted-requires c = record {
-      start_angle_value = rw c.start_and_point-seen.ensures;
-      off_ends = c.requires;
-    }
+  start_angle_value = rw c.start_and_point-seen.ensures;
+  off_ends = c.requires;
+}
 
 pub returns : goal.returns
 unfolding usable_arc_param arc_param_at

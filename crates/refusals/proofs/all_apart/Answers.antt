@@ -1,14 +1,13 @@
 -- `all_apart` meets its contract. Assumes nothing.
 use mathlib.Core.Path.{◌≡◌, ap, sym, ◌∙◌}
-use mathlib.Core.Bool.{true, false}
-use Prim.Native.Nat.{ℕ, ◌+◌, ◌≤◌, ◌-◌}
+use mathlib.Core.Bool.{false}
+use Prim.Native.Nat.{ℕ, ◌+◌}
 use native.Mathlib.Omega.{arith}
 use Rattle.floats.proofs.Choice.{both_pass}
 use Rattle.segments.specs.declared.PlineVertex.{PlineVertex}
 use Rattle.refusals.specs.Limits.{repeats}
 use Rattle.source.specs.Source.{vertices_in}
 use Rattle.source.specs.InnerSteps.{lent_by, vertex_of}
-use Rattle.refusals.specs.InnerSteps.{ApartBefore}
 use Rattle.refusals.proofs.First.{before_more}
 use Rattle.refusals.proofs.Bad.{not_fails}
 use Rattle.refusals.proofs.all_apart.Goals as goal

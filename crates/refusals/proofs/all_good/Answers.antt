@@ -1,13 +1,12 @@
 -- `all_good` meets its contract. Assumes nothing.
 use mathlib.Core.Path.{◌≡◌, ap, sym, ◌∙◌}
 use mathlib.Core.Bool.{true}
-use Prim.Native.Nat.{ℕ, ◌≤◌, ◌-◌}
+use Prim.Native.Nat.{ℕ}
 use native.Mathlib.Omega.{arith}
 use Rattle.floats.proofs.Choice.{both_pass}
 use Rattle.refusals.specs.Limits.{good_vertex}
 use Rattle.source.specs.Source.{vertices_in}
 use Rattle.source.specs.InnerSteps.{lent_by, vertex_of}
-use Rattle.refusals.specs.InnerSteps.{GoodBefore}
 use Rattle.refusals.proofs.First.{before_more}
 use Rattle.refusals.proofs.all_good.Goals as goal
 

@@ -1,14 +1,10 @@
 -- `all_good` meets its contract. Assumes nothing.
-use mathlib.Core.Path.{◌≡◌, ap, sym, ◌∙◌}
+use mathlib.Core.Path.{◌≡◌}
 use mathlib.Core.Bool.{true}
-use Prim.Native.Nat.{ℕ, ◌≤◌, ◌-◌}
-use native.Mathlib.Omega.{arith}
-use Rattle.floats.proofs.Choice.{both_pass}
-use Rattle.refusals.specs.Limits.{good_vertex}
+use Prim.Native.Nat.{◌≤◌, ◌-◌}
 use Rattle.source.specs.Source.{vertices_in}
-use Rattle.source.specs.InnerSteps.{lent_by, vertex_of}
+use Rattle.source.specs.InnerSteps.{lent_by}
 use Rattle.refusals.specs.InnerSteps.{GoodBefore}
-use Rattle.refusals.proofs.First.{before_more}
 use Rattle.refusals.proofs.all_good.Given as goal
 
 abbrev pub invariant-loop-k : goal.invariant-loop-k

@@ -1,15 +1,10 @@
 -- `first_bad_number`: the loop keeps that the search from its place on gives what the search of all tests gives. Assumes nothing.
-use mathlib.Core.Path.{◌≡◌, ◌∙◌, ap}
-use mathlib.Core.Bool.{not}
-use Prim.Native.Nat.{◌+◌, ◌-◌, ◌≤◌}
-use native.Mathlib.Omega.{arith}
-use borrow.Author.Rules.{rules}
+use mathlib.Core.Path.{◌≡◌}
+use Prim.Native.Nat.{◌-◌, ◌≤◌}
 use Rattle.source.specs.Source.{vertices_in}
 use Rattle.source.specs.InnerSteps.{lent_by}
-use Rattle.refusals.specs.declared.Place.TheVariants.{At}
 use Rattle.refusals.specs.Limits.{number_tests, first_of}
-use Rattle.refusals.proofs.First.{rest, first_skip, first_step, first_found, first-end}
-use Rattle.refusals.proofs.Numbers.{vertex_test, offset_test, eps_test, ratio_test, no-more_tests}
+use Rattle.refusals.proofs.First.{rest}
 use Rattle.refusals.proofs.first_bad_number.Given as goal
 
 abbrev pub invariant-loop-k : goal.invariant-loop-k

@@ -1,5 +1,4 @@
 -- `first_doubtful` meets its contract. Assumes nothing.
-use borrow.Author.Rules.{rules}
 use native.Mathlib.Omega.{arith}
 use Rattle.refusals.proofs.first_doubtful.Goals as goal
 

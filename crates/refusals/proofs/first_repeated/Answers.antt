@@ -1,12 +1,8 @@
 -- `first_repeated`: the loop keeps that the search from its place on gives what the search of all tests gives. Assumes nothing.
-use mathlib.Core.Path.{◌≡◌, ◌∙◌}
-use Prim.Native.Nat.{◌-◌, ◌≤◌}
+use mathlib.Core.Path.{◌∙◌}
 use native.Mathlib.Omega.{arith}
 use borrow.Author.Rules.{rules}
-use Rattle.source.specs.Source.{vertices_in, segments_of}
-use Rattle.source.specs.InnerSteps.{lent_by}
-use Rattle.refusals.specs.Limits.{repeat_tests, first_of}
-use Rattle.refusals.proofs.First.{rest, first_skip, first_step, first_found, first-end}
+use Rattle.refusals.proofs.First.{first_skip, first_step, first_found, first-end}
 use Rattle.source.proofs.Segments.{segments-most}
 use Rattle.refusals.proofs.Segments.{neighbour_test, segment_test, no-more-segments}
 use Rattle.refusals.proofs.first_repeated.Goals as goal
@@ -23,12 +19,11 @@ returns-then-repeats c =
     first_found _ _ (segment_test _ _ c.requires.v_value c.requires.le_v _ _ (rw c.loop-earlier.invariant.0 at c.loop-earlier-test.true) ∙ (cc)) ∙ c.loop-earlier.invariant.2
 
 pub loop-earlier-preserved : goal.loop-earlier-preserved
-loop-earlier-preserved c =
-    (
-      c.loop-earlier.invariant.0,
-      search rules,
-      first_step _ _ (segment_test _ _ c.requires.v_value c.requires.le_v _ _ (rw c.loop-earlier.invariant.0 at c.loop-earlier-test.true) ∙ (cc)) ∙ c.loop-earlier.invariant.2,
-    )
+loop-earlier-preserved c = (
+  c.loop-earlier.invariant.0,
+  search rules,
+  first_step _ _ (segment_test _ _ c.requires.v_value c.requires.le_v _ _ (rw c.loop-earlier.invariant.0 at c.loop-earlier-test.true) ∙ (cc)) ∙ c.loop-earlier.invariant.2,
+)
 
 pub returns : goal.returns
 returns c =

@@ -1,14 +1,10 @@
 -- `first_repeated`: the loop keeps that the search from its place on gives what the search of all tests gives. Assumes nothing.
-use mathlib.Core.Path.{◌≡◌, ◌∙◌}
+use mathlib.Core.Path.{◌≡◌}
 use Prim.Native.Nat.{◌-◌, ◌≤◌}
-use native.Mathlib.Omega.{arith}
-use borrow.Author.Rules.{rules}
 use Rattle.source.specs.Source.{vertices_in, segments_of}
 use Rattle.source.specs.InnerSteps.{lent_by}
 use Rattle.refusals.specs.Limits.{repeat_tests, first_of}
-use Rattle.refusals.proofs.First.{rest, first_skip, first_step, first_found, first-end}
-use Rattle.source.proofs.Segments.{segments-most}
-use Rattle.refusals.proofs.Segments.{neighbour_test, segment_test, no-more-segments}
+use Rattle.refusals.proofs.First.{rest}
 use Rattle.refusals.proofs.first_repeated.Given as goal
 
 abbrev pub invariant-loop-earlier : goal.invariant-loop-earlier

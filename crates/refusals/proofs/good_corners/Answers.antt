@@ -1,5 +1,4 @@
 -- `refusals::good_corners` meets its contract. Assumes nothing.
-use borrow.Author.Rules.{rules}
 use Rattle.refusals.proofs.good_corners.Goals as goal
 
 pub returns-in-Pointed : goal.returns-in-Pointed

@@ -1,5 +1,4 @@
 -- `sheet::chord_to` meets its contract. Assumes nothing.
-use borrow.Author.Rules.{rules}
 use mathlib.Core.Path.{ap, ◌∙◌}
 use Rattle.segments.specs.InnerSteps.{chord_of}
 use Rattle.sheet.proofs.chord_to.Goals as goal

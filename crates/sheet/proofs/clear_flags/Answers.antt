@@ -1,8 +1,5 @@
 -- `sheet::clear_flags` meets its contract. Assumes nothing.
-use borrow.Author.Rules.{rules}
-use Prim.Native.Nat.{◌-◌}
-use native.Mathlib.Omega.{arith}
-use Rattle.sheet.proofs.Writing.{Clearing, writing_none, clearing_turn, clearing_done}
+use Rattle.sheet.proofs.Writing.{writing_none, clearing_turn, clearing_done}
 use Rattle.sheet.proofs.clear_flags.Goals as goal
 
 pub loop-j-init : goal.loop-j-init

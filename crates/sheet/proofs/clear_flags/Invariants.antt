@@ -1,8 +1,6 @@
 -- `sheet::clear_flags` meets its contract. Assumes nothing.
-use borrow.Author.Rules.{rules}
 use Prim.Native.Nat.{◌-◌}
-use native.Mathlib.Omega.{arith}
-use Rattle.sheet.proofs.Writing.{Clearing, writing_none, clearing_turn, clearing_done}
+use Rattle.sheet.proofs.Writing.{Clearing}
 use Rattle.sheet.proofs.clear_flags.Given as goal
 
 abbrev pub invariant-loop-j : goal.invariant-loop-j

@@ -1,6 +1,5 @@
 -- `sheet::clear_origins` meets its contract. Assumes nothing.
 use mathlib.Core.Path.{ap, ◌∙◌}
-use borrow.Author.Rules.{rules}
 use Rattle.moves.specs.Origins.{origins_in}
 use Rattle.sheet.proofs.Origins.{origins-cleared}
 use Rattle.sheet.proofs.clear_origins.Goals as goal

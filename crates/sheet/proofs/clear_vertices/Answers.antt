@@ -1,10 +1,9 @@
 -- `sheet::clear_vertices` meets its contract. Assumes nothing.
-use mathlib.Core.Path.{◌≡◌, refl, ap, ◌∙◌}
-use Prim.Native.Nat.{◌-◌}
+use mathlib.Core.Path.{refl, ap, ◌∙◌}
 use native.Mathlib.Omega.{arith}
 use Rattle.sheet.specs.InnerSteps.{Held, held_by, blank}
-use Rattle.sheet.proofs.Lent.{held-is, held-most, Long, long_same}
-use Rattle.sheet.proofs.Writing.{Clearing, writing_none, clearing_turn, clearing_done}
+use Rattle.sheet.proofs.Lent.{held-is, held-most, long_same}
+use Rattle.sheet.proofs.Writing.{writing_none, clearing_turn, clearing_done}
 use Rattle.sheet.proofs.clear_vertices.Goals as goal
 
 pub loop-j-init : goal.loop-j-init
@@ -22,8 +21,7 @@ put_vertex-requires c =
 pub loop-j-preserved : goal.loop-j-preserved
 loop-j-preserved c =
     let l = c.loop-j.invariant in
-    let p = c.put_vertex in
-    (
+    let p = c.put_vertex in (
       rw (p.ensures, l.3) (clearing_turn blank l.0 c.loop-j-test.true c.requires),
       ap (λ (h : Held). h.beyond) p.ensures ∙ l.1,
       record { x = p.auto.outxs ∙ l.2.x; y = p.auto.outys ∙ l.2.y; bulge = p.auto.outbulges ∙ l.2.bulge },

@@ -1,10 +1,9 @@
 -- `sheet::clear_vertices` meets its contract. Assumes nothing.
-use mathlib.Core.Path.{◌≡◌, refl, ap, ◌∙◌}
+use mathlib.Core.Path.{◌≡◌}
 use Prim.Native.Nat.{◌-◌}
-use native.Mathlib.Omega.{arith}
-use Rattle.sheet.specs.InnerSteps.{Held, held_by, blank}
-use Rattle.sheet.proofs.Lent.{held-is, held-most, Long, long_same}
-use Rattle.sheet.proofs.Writing.{Clearing, writing_none, clearing_turn, clearing_done}
+use Rattle.sheet.specs.InnerSteps.{held_by, blank}
+use Rattle.sheet.proofs.Lent.{Long}
+use Rattle.sheet.proofs.Writing.{Clearing}
 use Rattle.sheet.proofs.clear_vertices.Given as goal
 
 abbrev pub invariant-loop-j : goal.invariant-loop-j

@@ -1,5 +1,4 @@
 -- `sheet::copy` meets its contract. Assumes nothing.
-use borrow.Author.Rules.{rules}
 use mathlib.Core.Path.{◌∙◌}
 use native.Mathlib.Omega.{arith}
 use Rattle.source.proofs.Segments.{segments-most}

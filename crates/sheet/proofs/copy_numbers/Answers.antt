@@ -1,12 +1,8 @@
 -- `sheet::copy_numbers` meets its contract. Assumes nothing.
-use borrow.Author.Rules.{rules}
 use mathlib.Core.Path.{sym}
-use Prim.Native.Nat.{◌-◌}
-use native.Mathlib.Omega.{arith}
-use lib.ListN.{take}
 use lib.Seq.{length-take-le, get_or-take}
 use lib.Ieee.{nan}
-use Rattle.sheet.proofs.Writing.{Writing, writing_none, copying_turn, copying_done}
+use Rattle.sheet.proofs.Writing.{writing_none, copying_turn, copying_done}
 use Rattle.sheet.proofs.copy_numbers.Goals as goal
 
 pub loop-i-init : goal.loop-i-init

@@ -1,5 +1,4 @@
 -- `sheet::copy_vertices` meets its contract. Assumes nothing.
-use borrow.Author.Rules.{rules}
 use native.Mathlib.Omega.{arith}
 use Rattle.sheet.proofs.Lent.{column_places, row-places, copied-columns, copied-rows}
 use Rattle.sheet.proofs.copy_vertices.Goals as goal

@@ -1,5 +1,4 @@
 -- `sheet::draw` meets its contract. Assumes nothing.
-use borrow.Author.Rules.{rules}
 use mathlib.Core.Path.{◌∙◌}
 use Rattle.source.proofs.Segments.{segments-closed, segments_open}
 use Rattle.sheet.proofs.draw.Goals as goal

@@ -1,5 +1,4 @@
 -- `sheet::draw_around` meets its contract. Assumes nothing.
-use borrow.Author.Rules.{rules}
 use mathlib.Core.Path.{ap, ◌∙◌}
 use native.Mathlib.Omega.{arith}
 use Rattle.sheet.specs.InnerSteps.{Trail, closes}

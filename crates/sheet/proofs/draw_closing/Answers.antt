@@ -1,5 +1,4 @@
 -- `sheet::draw_closing` meets its contract. Assumes nothing.
-use borrow.Author.Rules.{rules}
 use mathlib.Core.Path.{◌∙◌}
 use native.Mathlib.Omega.{arith}
 use Rattle.sheet.proofs.Lent.{all_alike}

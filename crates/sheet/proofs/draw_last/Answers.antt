@@ -1,5 +1,4 @@
 -- `sheet::draw_last` meets its contract. Assumes nothing.
-use borrow.Author.Rules.{rules}
 use mathlib.Core.Path.{sym, ◌∙◌}
 use native.Mathlib.Omega.{arith}
 use Rattle.floats.proofs.Choice.{yes, no}

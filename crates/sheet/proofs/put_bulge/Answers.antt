@@ -1,5 +1,4 @@
 -- `sheet::put_bulge` meets its contract. Assumes nothing.
-use borrow.Author.Rules.{rules}
 use native.Mathlib.Omega.{arith}
 use Rattle.sheet.proofs.Lent.{held_column, held-row, bulge-row, bulge_column}
 use Rattle.sheet.proofs.put_bulge.Goals as goal

@@ -1,5 +1,4 @@
 -- `sheet::put_flag` meets its contract. Assumes nothing.
-use borrow.Author.Rules.{rules}
 use mathlib.Core.Path.{refl}
 use Rattle.floats.proofs.Choice.{yes, no}
 use Rattle.sheet.proofs.put_flag.Goals as goal

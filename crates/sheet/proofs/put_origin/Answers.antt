@@ -1,5 +1,4 @@
 -- `sheet::put_origin` meets its contract. Assumes nothing.
-use borrow.Author.Rules.{rules}
 use Rattle.sheet.proofs.Origins.{origin-stored}
 use Rattle.sheet.proofs.put_origin.Goals as goal
 

@@ -1,5 +1,4 @@
 -- `sheet::put_vertex` meets its contract. Assumes nothing.
-use borrow.Author.Rules.{rules}
 use native.Mathlib.Omega.{arith}
 use lib.ListN.{length-set}
 use Rattle.sheet.proofs.Lent.{held_column, held-row, put-row, put_column}

@@ -1,8 +1,6 @@
 -- `sheet::store` meets its contract. Assumes nothing.
-use borrow.Author.Rules.{rules}
 use mathlib.Core.Path.{refl}
 use native.Mathlib.Omega.{arith}
-use borrow.Author.Tests.{not-true, not-false}
 use Rattle.floats.proofs.Choice.{yes, no}
 use Rattle.moves.proofs.Laws.{byte_bit, byte_small}
 use Rattle.moves.proofs.Finite.{doubt-more}

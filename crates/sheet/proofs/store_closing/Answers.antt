@@ -1,5 +1,4 @@
 -- `sheet::store_closing` meets its contract. Assumes nothing.
-use mathlib.Core.Path.{◌∙◌}
 use native.Mathlib.Omega.{arith}
 use Rattle.sheet.proofs.Storing.{room_fewer, next-number, span_coded, connector_coded, move_leaves, span-stored, closing-connectors, closing-length, closing-room}
 use Rattle.sheet.proofs.store_closing.Goals as goal

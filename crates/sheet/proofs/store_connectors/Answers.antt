@@ -1,5 +1,4 @@
 -- `sheet::store_connectors` meets its contract. Assumes nothing.
-use mathlib.Core.Path.{◌∙◌}
 use native.Mathlib.Omega.{arith}
 use Rattle.sheet.proofs.Storing.{room_fewer, row_number, row_leaves, row-stored, row-pen, tip-one}
 use Rattle.sheet.proofs.store_connectors.Goals as goal

@@ -1,5 +1,4 @@
 -- `sheet::store_move` meets its contract. Assumes nothing.
-use borrow.Author.Rules.{rules}
 use mathlib.Core.Path.{sym, ap, ◌∙◌}
 use lib.Dec.{eqb}
 use Rattle.floats.specs.Choice.{◌and◌}

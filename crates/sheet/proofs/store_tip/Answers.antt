@@ -1,9 +1,7 @@
 -- `sheet::store_tip` meets its contract. Assumes nothing.
-use borrow.Author.Rules.{rules}
 use mathlib.Core.Path.{refl, sym, ap, ◌∙◌}
 use mathlib.Core.Bool.{Bool}
 use native.Mathlib.Omega.{arith}
-use borrow.Author.Tests.{not-true, not-false}
 use Rattle.floats.specs.Choice.{◌and◌}
 use Rattle.floats.proofs.Choice.{both_pass}
 use Rattle.moves.proofs.Tips.{tip-none, tip-some}

@@ -1,5 +1,4 @@
 -- `sheet::store_turn` meets its contract. Assumes nothing.
-use mathlib.Core.Path.{◌∙◌}
 use native.Mathlib.Omega.{arith}
 use Rattle.sheet.proofs.Storing.{room_fewer, next-number, move_leaves, span-stored, span-pen, tip-one}
 use Rattle.sheet.proofs.store_turn.Goals as goal

@@ -1,16 +1,11 @@
 -- `sheet::store_turns` meets its contract: what the turns still to come leave is what all of them leave from the start, with the bulge that is left to be written counted as
 -- written; `chord` is how far the next vertex is, and the sweeps that are kept are those of their bulges (`Walking`). Assumes nothing.
-use mathlib.Core.Path.{refl, sym, ap, ◌∙◌}
 use Prim.Native.Nat.{◌-◌}
-use native.Mathlib.Omega.{arith}
-use Rattle.segments.specs.InnerSteps.{chord_of}
 use Rattle.source.specs.Source.{vertices_in}
 use Rattle.source.specs.InnerSteps.{lent_by}
-use Rattle.walk.specs.InnerSteps.{stood}
-use Rattle.moves.proofs.Origins.{lent_alike}
-use Rattle.sheet.specs.InnerSteps.{held, Laid, trail, advances, routed}
-use Rattle.sheet.proofs.Lent.{Long, long_same, all_alike}
-use Rattle.sheet.proofs.Loop.{Walking, wrote_later, walking_none, walking_turn, walking_done, walking_fit, room-later, room-turn, number-turn, coded_turn, tipped-turn}
+use Rattle.sheet.specs.InnerSteps.{held, trail, advances, routed}
+use Rattle.sheet.proofs.Lent.{Long}
+use Rattle.sheet.proofs.Loop.{Walking}
 use Rattle.sheet.proofs.store_turns.Given as goal
 
 abbrev pub invariant-loop-turn : goal.invariant-loop-turn

@@ -1,5 +1,4 @@
 -- `sheet::wipe` meets its contract. Assumes nothing.
-use borrow.Author.Rules.{rules}
 use native.Mathlib.Omega.{arith}
 use Rattle.moves.proofs.Origins.{origins-length}
 use Rattle.sheet.specs.InnerSteps.{wiped}

@@ -1,5 +1,4 @@
 -- `sweeps::keep` meets its contract. Assumes nothing.
-use borrow.Author.Rules.{rules}
 use mathlib.Core.Path.{sym, subst}
 use lib.Dec.{T}
 use Rattle.sweeps.proofs.Slots.{kept_put}

@@ -1,8 +1,6 @@
 -- `big_endian` meets its contract. Assumes nothing.
-use borrow.Author.Rules.{rules}
-use Prim.Native.Nat.{◌-◌}
 use native.Mathlib.Omega.{arith}
-use Rattle.words.proofs.Reading.{Reading, reading_done, reading_none, reading_turn, room}
+use Rattle.words.proofs.Reading.{reading_done, reading_none, reading_turn, room}
 use Rattle.words.proofs.big_endian.Goals as goal
 
 pub loop-k-init : goal.loop-k-init

@@ -1,8 +1,6 @@
 -- `big_endian` meets its contract. Assumes nothing.
-use borrow.Author.Rules.{rules}
 use Prim.Native.Nat.{◌-◌}
-use native.Mathlib.Omega.{arith}
-use Rattle.words.proofs.Reading.{Reading, reading_done, reading_none, reading_turn, room}
+use Rattle.words.proofs.Reading.{Reading}
 use Rattle.words.proofs.big_endian.Given as goal
 
 abbrev pub invariant-loop-k : goal.invariant-loop-k

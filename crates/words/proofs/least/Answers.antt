@@ -7,12 +7,12 @@ use Rattle.words.proofs.least.Goals as goal
 
 pub returns-then-a-b : goal.returns-then-a-b
 returns-then-a-b c = record {
-      value = yes _ _ _ (lt-ltb _ _ c.if-a-b.true) refl;
-      upper_bound = omega (arith, c.if-a-b.true);
-    }
+  value = yes _ _ _ (lt-ltb _ _ c.if-a-b.true) refl;
+  upper_bound = omega (arith, c.if-a-b.true);
+}
 
 pub returns-else-a-b : goal.returns-else-a-b
 returns-else-a-b c = record {
-      value = no _ _ _ (le-ltb _ _ c.if-a-b.false) refl;
-      upper_bound = omega arith;
-    }
+  value = no _ _ _ (le-ltb _ _ c.if-a-b.false) refl;
+  upper_bound = omega arith;
+}

@@ -1,5 +1,4 @@
 -- `number_at` meets its contract. Assumes nothing.
-use borrow.Author.Rules.{rules}
 use Rattle.words.specs.Words.{number_at}
 use Rattle.words.proofs.number_at.Goals as goal
 

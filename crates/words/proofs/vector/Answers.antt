@@ -1,5 +1,4 @@
 -- `vector` meets its contract. Assumes nothing.
-use borrow.Author.Rules.{rules}
 use Rattle.words.specs.InnerSteps.{vector_at}
 use Rattle.words.proofs.vector.Goals as goal
 

@@ -1,6 +1,5 @@
 -- `meetings::ArcParam::param` meets its contract. Assumes nothing.
 use mathlib.Core.Path.{refl}
-use borrow.Author.Rules.{rules}
 use Rattle.meetings.proofs.ArcParam.param.Goals as goal
 
 pub returns-in-StartMatched : goal.returns-in-StartMatched

@@ -1,8 +1,6 @@
 -- `moves::Origin::code` meets its contract: the number of an origin whose segment is below 2^31 fits. Assumes nothing.
-use mathlib.Core.Path.{◌≡◌, sym, ap, ◌∙◌}
+use mathlib.Core.Path.{sym, ap}
 use native.Mathlib.Omega.{arith}
-use borrow.Author.Rules.{rules}
-use Rattle.moves.specs.Made.{segment_of}
 use Rattle.moves.specs.Origins.{code_of}
 use Rattle.moves.proofs.Origin.code.Goals as goal
 

@@ -1,5 +1,4 @@
 -- `moves::Pen::after` meets its contract. Assumes nothing.
-use borrow.Author.Rules.{rules}
 use mathlib.Core.Path.{refl}
 use Rattle.floats.proofs.Choice.{yes, no}
 use Rattle.moves.specs.InnerSteps.{pen_after}

@@ -1,5 +1,4 @@
 -- `moves::Pen::step` meets its contract. Assumes nothing.
-use borrow.Author.Rules.{rules}
 use Rattle.moves.specs.InnerSteps.{step_of}
 use Rattle.moves.proofs.Pen.step.Goals as goal
 

@@ -1,5 +1,4 @@
 -- `segments::CarriedSeg::end_tangent` meets its contract. Assumes nothing.
-use borrow.Author.Rules.{rules}
 use Rattle.segments.proofs.CarriedSeg.end_tangent.Goals as goal
 
 pub tangent_at-requires : goal.tangent_at-requires

@@ -1,5 +1,4 @@
 -- `segments::CarriedSeg::full` meets its contract. Assumes nothing.
-use borrow.Author.Rules.{rules}
 use mathlib.Core.Path.{refl, ap}
 use Rattle.segments.specs.declared.RawOffsetSeg.TheVariants.{Arc}
 use Rattle.segments.proofs.CarriedSeg.full.Goals as goal

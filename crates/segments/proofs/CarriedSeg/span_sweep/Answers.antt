@@ -1,5 +1,4 @@
 -- `CarriedSeg::span_sweep` meets its contract. Assumes nothing.
-use borrow.Author.Rules.{rules}
 use mathlib.Core.Path.{refl}
 use Rattle.segments.proofs.CarriedSeg.span_sweep.Goals as goal
 

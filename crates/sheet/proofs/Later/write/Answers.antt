@@ -1,5 +1,4 @@
 -- `sheet::Later::write` meets its contract. Assumes nothing.
-use borrow.Author.Rules.{rules}
 use mathlib.Core.Path.{refl, sym, ◌∙◌}
 use borrow.Author.Tests.{not-true, not-false}
 use Rattle.floats.proofs.Choice.{yes, no}
