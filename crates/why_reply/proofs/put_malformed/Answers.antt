@@ -1,5 +1,4 @@
 -- `put_malformed` meets its contract. Assumes nothing.
-use borrow.Author.Rules.{rules}
 use Rattle.why_reply.proofs.put_malformed.Goals as goal
 
 pub returns : goal.returns

@@ -1,5 +1,4 @@
 -- `reply` meets its contract. Assumes nothing.
-use borrow.Author.Rules.{rules}
 use Rattle.why_reply.proofs.Replies.{cut_short, asked}
 use Rattle.why_reply.proofs.reply.Goals as goal
 

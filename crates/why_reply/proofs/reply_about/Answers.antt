@@ -1,6 +1,5 @@
 -- `reply_about` meets its contract. Assumes nothing.
 use mathlib.Core.Path.{sym}
-use borrow.Author.Rules.{rules}
 use native.Mathlib.Omega.{arith}
 use lib.Seq.{length-take-le}
 use Rattle.packed.proofs.Bytes.{decoded-room}

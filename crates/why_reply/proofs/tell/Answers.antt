@@ -1,5 +1,4 @@
 -- `tell` meets its contract. Assumes nothing.
-use borrow.Author.Rules.{rules}
 use Rattle.why_reply.proofs.Replies.{told_text, refusal-text}
 use Rattle.why_reply.proofs.tell.Goals as goal
 
