@@ -1,15 +1,15 @@
 -- Nothing is told to differ between two outputs if and only if they are equal. Assumes nothing.
 use mathlib.Core.Path.{◌≡◌, refl, sym, ap, ◌∙◌, subst}
 use mathlib.Core.List.Memᴰ
-use mathlib.Core.List.{List, [], ◌∷◌, ◌++◌, Memᴰ}
-use mathlib.Core.Bool.{Bool, true, false, not}
-use Prim.Native.Nat.{ℕ, zero, suc, ◌+◌, ◌*◌, ◌/◌, ◌%◌, ◌-◌, ◌≤◌, ◌<◌}
+use mathlib.Core.List.{List, [], ◌∷◌, Memᴰ}
+use mathlib.Core.Bool.{Bool, true, false}
+use Prim.Native.Nat.{ℕ, zero, suc, ◌+◌, ◌*◌, ◌<◌}
 use native.Mathlib.Omega.{arith}
 use borrow.Author.Tests.{eqb-true}
-use lib.Dec.{T, eqb}
-use lib.ListN.{length, get_or}
+use lib.Dec.{T}
+use lib.ListN.{length}
 use lib.Seq.{ext_get_or}
-use lib.Ieee.{Float, binary64, fits, nan}
+use lib.Ieee.{Float, binary64, fits}
 use Rattle.floats.proofs.Choice.{both_pass}
 use Rattle.refusals.proofs.First.{by_test}
 use Rattle.segments.specs.declared.PlineVertex.{PlineVertex}
@@ -17,7 +17,7 @@ use Rattle.source.specs.Source.{vertices_of, segments_of}
 use Rattle.source.specs.InnerSteps.{vertex_of}
 use Rattle.source.proofs.Source.{row_at}
 use Rattle.source.proofs.Segments.{segments-most}
-use Rattle.compare.specs.Compare.{Output, points_of, differ, vertex_at, flag_at, fields_at, any_of, entries_for, entries_to, shared, list_of, unmatched, marks_differ, is_even}
+use Rattle.compare.specs.Compare.{Output, points_of, vertex_at, flag_at, fields_at, any_of, entries_to, shared, list_of, unmatched, marks_differ, is_even}
 use Rattle.compare.specs.Claim.{Doubles, Same}
 use Rattle.compare.proofs.Entries.{no-entry}
 use Rattle.compare.proofs.Listed.{of-listed}

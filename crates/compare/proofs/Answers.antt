@@ -2,19 +2,16 @@
 use mathlib.Core.Path.{◌≡◌, refl, sym, ap, ◌∙◌}
 use mathlib.Core.List.{List, map}
 use mathlib.Core.Bool.{Bool, true, false, not}
-use Prim.Native.Nat.{ℕ, ◌/◌, ◌≤◌, ◌<◌}
-use native.Mathlib.Omega.{arith}
+use Prim.Native.Nat.{ℕ, ◌/◌, ◌≤◌}
 use borrow.Author.Tests.{ltb-false, leb-true}
 use lib.ListN.{length}
 use lib.Ieee.{Float}
-use Rattle.floats.specs.Choice.{when◌give◌else◌}
 use Rattle.floats.proofs.Choice.{yes, no, both_pass}
 use Rattle.refusals.specs.declared.Refusal.TheVariants.{Ragged, TooMany, NoRoom}
 use Rattle.source.specs.Source.{vertices_of}
 use Rattle.source.proofs.Source.{length-vertices}
-use Rattle.compare.specs.declared.Differences.{Differences}
 use Rattle.compare.specs.declared.CompareAnswer.TheVariants.{Compared, Refused}
-use Rattle.compare.specs.Compare.{Output, points_of, Entry, entries_to, shared, unmatched, list_of, marks_differ, is_even, is_many, has_room, number_in, code_in, found_in, at_front, Outcome, outcome, listing, compare_of}
+use Rattle.compare.specs.Compare.{Output, points_of, Entry, entries_to, shared, unmatched, list_of, marks_differ, is_even, is_many, has_room, number_in, code_in, at_front, Outcome, outcome, listing, compare_of}
 
 -- how many vertices an output has that is not refused as too many
 pub few : (numbers : List Float) → is_many numbers ≡ false → length (vertices_of numbers) ≤ 12288

@@ -1,23 +1,22 @@
 -- What 02's 2026-03 promises holds of every call that is done (`claim`). Assumes nothing.
 use mathlib.Core.Path.{◌≡◌, refl, sym, ap, ◌∙◌, subst}
 use mathlib.Core.Logic.{◌↔◌}
-use mathlib.Core.List.{List, [], ◌∷◌, map, Memᴰ}
-use mathlib.Core.Bool.{Bool, true, false, not}
-use Prim.Native.Nat.{ℕ, ◌≤◌, ◌<◌}
+use mathlib.Core.List.{List, map, Memᴰ}
+use mathlib.Core.Bool.{true, false, not}
+use Prim.Native.Nat.{ℕ, ◌<◌}
 use native.Mathlib.Omega.{arith}
-use lib.ListN.{length, take, drop, length-map}
+use lib.ListN.{length, drop, length-map}
 use lib.Seq.{take_at, drop_at}
-use Rattle.floats.specs.Choice.{when◌give◌else◌}
-use Rattle.floats.proofs.Choice.{yes, no}
+use Rattle.floats.proofs.Choice.{no}
 use Rattle.refusals.specs.declared.Refusal.TheVariants.{Ragged, TooMany, NoRoom}
 use Rattle.refusals.proofs.First.{by_test}
 use Rattle.moves.specs.Choice.{Rising}
 use Rattle.compare.specs.declared.Fields.{Fields}
 use Rattle.compare.specs.declared.CompareAnswer.TheVariants.{Compared, Refused}
-use Rattle.compare.specs.Compare.{Output, output, points_of, differ, vertex_at, flag_at, fields_at, any_of, Entry, entries_to, shared, list_of, unmatched, marks_differ, is_even, is_many, has_room, number_in, code_in, found_in, at_front, Outcome, outcome, listing, compare_of, number}
-use Rattle.compare.specs.Claim.{Doubles, Differ, Differing, Same, Nothing, told, Claim}
-use Rattle.compare.proofs.Answers.{no_room, listed, ragged-first, many-first, ragged-second, many-second, both-good}
-use Rattle.compare.proofs.Listed.{Of, listed_of, of-listed, entries_rise}
+use Rattle.compare.specs.Compare.{Output, points_of, fields_at, any_of, shared, list_of, is_even, is_many, has_room, number_in, code_in, found_in, at_front, Outcome, outcome, listing, compare_of, number}
+use Rattle.compare.specs.Claim.{Doubles, Differing, Same, Nothing, Claim}
+use Rattle.compare.proofs.Answers.{no_room, ragged-first, many-first, ragged-second, many-second, both-good}
+use Rattle.compare.proofs.Listed.{listed_of, of-listed, entries_rise}
 use Rattle.compare.proofs.Told.{unequal_told, differ-told, settled, any_told, code-fields, unmatched-is, below-shared, marks-told}
 use Rattle.compare.proofs.Alike.{told_same, same-listed, same-unmatched, same-closed}
 

@@ -1,20 +1,19 @@
 -- Each answer is given exactly when 02 says (`answers`). Assumes nothing.
-use mathlib.Core.Path.{◌≡◌, refl, sym, ap, ◌∙◌, subst}
-use mathlib.Core.Logic.{◌↔◌, ◌⊎◌, inl, inr, ⊎_elim}
+use mathlib.Core.Path.{◌≡◌, refl, subst}
+use mathlib.Core.Logic.{◌↔◌, inl, inr, ⊎_elim}
 use mathlib.Core.List.{List}
-use mathlib.Core.Bool.{Bool, true, false, not}
-use Prim.Native.Nat.{ℕ, ◌%◌, ◌≤◌, ◌<◌}
+use mathlib.Core.Bool.{true, false}
+use Prim.Native.Nat.{ℕ}
 use native.Mathlib.Omega.{arith}
-use borrow.Author.Tests.{eqb-true, eqb-false, eq-eqb, ltb-true, ltb-false, lt-ltb, leb-true, leb-false, le-leb}
-use lib.Dec.{eqb, ltb, leb}
+use borrow.Author.Tests.{eqb-true, eqb-false, ltb-true, leb-false}
+use lib.Dec.{leb}
 use lib.ListN.{length}
 use Rattle.floats.proofs.Choice.{both_pass, either_fails}
 use Rattle.refusals.specs.declared.Refusal.TheVariants.{Ragged, TooMany, NoRoom}
 use Rattle.refusals.proofs.First.{by_test}
-use Rattle.source.specs.Source.{segments_of}
-use Rattle.compare.specs.declared.CompareAnswer.TheVariants.{Compared, Refused}
-use Rattle.compare.specs.Compare.{Output, points_of, list_of, is_even, is_many, has_room, Outcome, outcome, compare_of, number}
-use Rattle.compare.specs.Claim.{Even, Many, Fine, Roomy, number_is, Answers}
+use Rattle.compare.specs.declared.CompareAnswer.TheVariants.{Refused}
+use Rattle.compare.specs.Compare.{Output, list_of, is_even, is_many, has_room, Outcome, outcome, compare_of}
+use Rattle.compare.specs.Claim.{Even, Many, Fine, Roomy, Answers}
 use Rattle.compare.proofs.Answers.{fits, no_room, ragged-first, many-first, ragged-second, many-second, both-good, few}
 use Rattle.compare.proofs.Claim.{done, fitting}
 

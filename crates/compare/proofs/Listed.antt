@@ -1,20 +1,19 @@
 -- Which entries a list has, and that they rise. Assumes nothing.
-use mathlib.Core.Path.{◌≡◌, refl, sym, ap, ◌∙◌, subst}
-use mathlib.Core.Logic.{◌↔◌, ◌⊎◌, inl, inr, ⊎_elim}
+use mathlib.Core.Path.{◌≡◌, refl, sym, subst}
+use mathlib.Core.Logic.{◌⊎◌, inl, inr, ⊎_elim}
 use mathlib.Core.List.{List, [], ◌∷◌, ◌++◌, map, append-nil, Memᴰ}
-use mathlib.Core.Bool.{Bool, true, false}
+use mathlib.Core.Bool.{true, false}
 use Prim.Native.Nat.{ℕ, zero, suc, ◌≤◌, ◌<◌}
 use native.Mathlib.Omega.{arith}
 use borrow.Author.Tests.{ltb-true, ltb-false}
 use lib.Dec.{ltb}
-use Rattle.floats.proofs.Choice.{yes, no}
 use Rattle.refusals.proofs.First.{by_test}
 use Rattle.moves.specs.Choice.{Rising}
 use Rattle.moves.specs.Choice.Rising.{none, next}
 use Rattle.segments.specs.declared.PlineVertex.{PlineVertex}
 use Rattle.compare.specs.declared.Fields.{Fields}
 use Rattle.compare.specs.Compare.{Entry, any_of, entries_for, fields_at, entries_to, number_in}
-use Rattle.compare.proofs.Entries.{one_entry, no-entry, map-append}
+use Rattle.compare.proofs.Entries.{one_entry, no-entry}
 
 -- ---- members
 

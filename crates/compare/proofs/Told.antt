@@ -1,19 +1,16 @@
 -- What differs, as a test and as a proposition, and that it can be read off its number. Assumes nothing.
-use mathlib.Core.Path.{◌≡◌, refl, sym, ap, ◌∙◌, subst}
+use mathlib.Core.Path.{◌≡◌, refl, sym, ap, ◌∙◌}
 use mathlib.Core.Logic.{◌↔◌, ◌⊎◌, inl, inr, ⊎_elim}
-use mathlib.Core.List.{List}
 use mathlib.Core.Bool.{Bool, true, false, not, false≢true}
 use Prim.Native.Nat.{ℕ, ◌+◌, ◌-◌, ◌*◌, ◌≤◌, ◌<◌}
 use native.Mathlib.Omega.{arith}
 use borrow.Author.Tests.{eqb-true, eqb-false, eq-eqb, ne_eqb, ltb-true, ltb-false, not-true, not-false}
 use lib.Dec.{T, eqb, ltb}
-use lib.ListN.{length, get_or}
-use lib.Ieee.{Float, binary64, to_bits, of_bits, fits, nan}
+use lib.Ieee.{Float, binary64, to_bits, of_bits, fits}
 use lib.Ieee.Bits.{of_bits-to_bits}
 use Rattle.floats.specs.Choice.{when◌give◌else◌, ◌or◌}
 use Rattle.floats.proofs.Choice.{yes, no}
 use Rattle.refusals.proofs.First.{by_test}
-use Rattle.segments.specs.declared.PlineVertex.{PlineVertex}
 use Rattle.compare.specs.declared.Fields.{Fields}
 use Rattle.compare.specs.Compare.{differ, any_of, bit_of, code_of, shared, unmatched, marks_differ}
 use Rattle.compare.specs.Claim.{Differ}

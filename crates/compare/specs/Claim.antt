@@ -1,6 +1,6 @@
 -- What 02's 2026-03 promises, read off the answer and the buffers of a call: of one that is done `Claim`, and which answer is given exactly when, `Answers` (shown of every call in `proofs/Claim.antt` and
 -- `proofs/Given.antt`). Definitions only.
-use Rattle.std.specs.Prelude.{◌≡◌, ◌↔◌, ◌⊎◌, Bool, true, false, ℕ, ◌+◌, ◌-◌, ◌%◌, ◌≤◌, ◌<◌, T, length, take, drop, get_or, Float}
+use Rattle.std.specs.Prelude.{◌≡◌, ◌↔◌, ◌⊎◌, true, false, ℕ, ◌+◌, ◌-◌, ◌%◌, ◌≤◌, ◌<◌, T, length, take, drop, get_or, Float}
 use mathlib.Core.List.{List, map, Memᴰ}
 use Rattle.std.specs.Float.{binary64, nan}
 use Rattle.std.specs.Float.Ieee.{to_bits, fits}

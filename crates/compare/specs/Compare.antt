@@ -1,11 +1,10 @@
 -- Two outputs side by side (02's 2026-03): what is compared, which vertices are listed and with what, and the refusals. Definitions only.
-use Rattle.std.specs.Prelude.{ℕ, zero, suc, ◌+◌, ◌-◌, List, [], ◌∷◌, ◌++◌, map, Bool, true, false, not, eqb, ltb, leb, length, drop, get_or, Float}
+use Rattle.std.specs.Prelude.{ℕ, zero, suc, ◌+◌, ◌-◌, List, [], ◌∷◌, ◌++◌, map, Bool, false, not, eqb, ltb, leb, length, drop, get_or, Float}
 use Rattle.std.specs.Float.{binary64, nan}
 use Rattle.std.specs.Float.Ieee.{to_bits}
 use Rattle.floats.specs.Choice.{when◌give◌else◌, ◌and◌, ◌or◌}
 use Rattle.segments.specs.declared.PlineVertex.{PlineVertex}
 use Rattle.source.specs.Source.{rows, is_whole, vertices_of, segments_of}
-use Rattle.refusals.specs.declared.Refusal.{Refusal}
 use Rattle.refusals.specs.declared.Refusal.TheVariants.{Ragged, TooMany, NoRoom}
 use Rattle.refusals.specs.Table.{number_of, place_of}
 use Rattle.compare.specs.declared.Fields.{Fields}

@@ -1,8 +1,8 @@
 -- Vertices as they are drawn (02's 2026-05): what is held of an open job between two vertices, what each vertex makes certain and hands out, and what the end hands out. A piece
 -- handed out has the lists of a drawing: a segment is in it by the vertex that it leaves, its flag, its origin, and its number in the whole job where it is flagged. Definitions only.
-use Rattle.std.specs.Prelude.{ℕ, ◌+◌, ◌-◌, List, [], ◌∷◌, ◌++◌, Bool, false, not, eqb, ltb, leb, length, Float}
+use Rattle.std.specs.Prelude.{ℕ, ◌+◌, ◌-◌, List, [], ◌∷◌, ◌++◌, false, not, eqb, ltb, leb, length}
 use Rattle.std.specs.Float.Ieee.{eq}
-use Rattle.floats.specs.Binary64.{zero, one}
+use Rattle.floats.specs.Binary64.{zero}
 use Rattle.floats.specs.Choice.{when◌give◌else◌, ◌and◌}
 use Rattle.vectors.specs.declared.Vector2.{Vector2}
 use Rattle.segments.specs.declared.Settings.{Settings}

@@ -16,7 +16,6 @@ use Rattle.joins.specs.declared.JoinBoundary.{JoinBoundary}
 use Rattle.joins.specs.declared.JoinCause.TheVariants.{Coincident}
 use Rattle.moves.specs.declared.Pen.{Pen}
 use Rattle.moves.specs.declared.Stroke.{Stroke}
-use Rattle.moves.specs.declared.Stepped.{Stepped}
 use Rattle.moves.specs.declared.Origin.TheVariants.{Span}
 use Rattle.moves.specs.declared.Reason.TheVariants.{Copied}
 use Rattle.moves.specs.Reason.{is_invalid}

@@ -30,7 +30,6 @@ use Rattle.walk.specs.Walk.{moves_a_segment, drawing_of, copied}
 use Rattle.walk.proofs.Lengths.{two-moves}
 use Rattle.sheet.proofs.Products.{product_most}
 use Rattle.sheet.specs.declared.Built.{Built}
-use Rattle.sheet.specs.declared.Built.TheVariants as Built
 use Rattle.sheet.specs.Buffers.{Buffers, buffers, flat, laid_in, shown}
 use Rattle.sheet.specs.InnerSteps.{held, fitting, showing, Ready, Drawable, Finished, finished, built_of}
 use Rattle.sheet.proofs.Lent.{held-made, held-shown}

@@ -10,7 +10,6 @@ use Rattle.source.specs.Source.{vertices_of, vertices_in}
 use Rattle.refusals.specs.Limits.{good_offset, good_eps, good_corners}
 use Rattle.refusals.proofs.First.{by_test}
 use Rattle.moves.specs.Drawing.{nothing}
-use Rattle.job.specs.Job.{number}
 use Rattle.course.specs.Course.{◌then◌, end_piece}
 use Rattle.course.specs.Joined.{drawn_whole, Beginning}
 use Rattle.course.proofs.Counts.{end_fits, end_open}

@@ -3,7 +3,7 @@
 use mathlib.Core.Path.{◌≡◌, refl, sym, ap, subst, ◌∙◌}
 use mathlib.Core.List.{List, [], ◌∷◌, ◌++◌}
 use mathlib.Core.Bool.{Bool, true, false, not}
-use Prim.Native.Nat.{ℕ, suc, ◌+◌, ◌*◌, ◌≤◌, ◌<◌}
+use Prim.Native.Nat.{ℕ, ◌+◌, ◌*◌, ◌≤◌, ◌<◌}
 use native.Mathlib.Omega.{arith}
 use borrow.Author.Tests.{eqb-true}
 use lib.Dec.{eqb}
@@ -16,22 +16,21 @@ use Rattle.source.specs.Source.{rows}
 use Rattle.moves.specs.declared.Stroke.{Stroke}
 use Rattle.moves.specs.Origins.{origins_in}
 use Rattle.moves.specs.Reason.{is_invalid}
-use Rattle.moves.specs.Drawing.{Drawing, nothing, bit}
+use Rattle.moves.specs.Drawing.{Drawing, bit}
 use Rattle.walk.specs.Walk.{moves_a_segment}
 use Rattle.walk.proofs.Lengths.{moves-few}
-use Rattle.sheet.specs.declared.Places.{Places}
 use Rattle.sheet.specs.Buffers.{Buffers, buffers}
-use Rattle.sheet.specs.InnerSteps.{Contents, fitting, no_places, Laid, laid, stores, Rooms, written}
+use Rattle.sheet.specs.InnerSteps.{no_places, Laid, laid, stores, Rooms, written}
 use Rattle.sheet.proofs.Stored.{stores-append}
 use Rattle.sheet.proofs.Storing.{room_fewer}
 use Rattle.course.specs.declared.Course.{Course}
 use Rattle.course.specs.Course.{◌then◌, Drawn, none_drawn, step_on, refusal_of, draw_one, draw_all}
-use Rattle.course.specs.InnerSteps.{numbers_by, vertices_by, piece_by, step_strokes}
+use Rattle.course.specs.InnerSteps.{numbers_by, piece_by, step_strokes}
 use Rattle.course.proofs.Strokes.{piece-append, step-piece}
 use Rattle.pieces.specs.declared.OpenJob.{OpenJob}
 use Rattle.pieces.specs.declared.Taken.{Taken}
 use Rattle.pieces.specs.declared.DrawAnswer.{DrawAnswer}
-use Rattle.pieces.specs.Calls.{drawing, refused, answering, Called, called, handed_out, staged, drawn_call}
+use Rattle.pieces.specs.Calls.{drawing, refused, answering, called, handed_out, staged, drawn_call}
 use Rattle.pieces.specs.InnerSteps.{rows_held, Went, went, went_one, went_all, none_taken, counted, taken_answer, taken_job}
 use Rattle.pieces.proofs.Stored.{Rows, stores-rows, numbers-few, stores-written, written_out}
 use Rattle.pieces.proofs.Went.{step-few, step_counts, open_taken}

@@ -1,5 +1,5 @@
 -- A record by its words: its mode, and how many output segments it can have. Assumes nothing.
-use mathlib.Core.Path.{◌≡◌, refl, ap, ◌∙◌}
+use mathlib.Core.Path.{◌≡◌, refl}
 use mathlib.Core.Bool.{Bool, true, false, not}
 use Prim.Native.Nat.{ℕ, ◌*◌, ◌-◌}
 use mir.Val.{bool_byte}
@@ -7,7 +7,6 @@ use lib.Dec.{eqb, leb}
 use Rattle.floats.specs.Choice.{when◌give◌else◌}
 use Rattle.segments.specs.declared.Corners.{Corners}
 use Rattle.segments.specs.declared.Corners.TheVariants.{Round, Pointed}
-use Rattle.segments.specs.declared.Settings.{Settings}
 use Rattle.segments.specs.Modes.{are_pointed, round_by, pointed_by}
 use Rattle.job.specs.InnerSteps.{moves_if}
 use Rattle.job.proofs.Ends.{moves_if_lem}

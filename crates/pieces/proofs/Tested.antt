@@ -1,16 +1,15 @@
 -- What the tests of a call show of it, in their order: no open job (`draw-shut`, `end-shut`), a number left over (`draw-ragged`), no room (`draw_roomless`, `end_roomless`), and else what
 -- the vertices and the end leave. Assumes nothing.
-use mathlib.Core.Path.{◌≡◌, refl, sym, ap, ◌∙◌}
+use mathlib.Core.Path.{◌≡◌, sym, ap, ◌∙◌}
 use mathlib.Core.List.{List, []}
 use mathlib.Core.Bool.{Bool, true, false, not}
-use Prim.Native.Nat.{ℕ, ◌+◌, ◌*◌, ◌-◌, ◌/◌, ◌≤◌, ◌<◌}
+use Prim.Native.Nat.{ℕ, ◌*◌, ◌-◌, ◌/◌, ◌≤◌}
 use native.Mathlib.Omega.{arith}
 use borrow.Author.Tests.{leb-true, eq-eqb, ne_eqb, not-false}
-use lib.Dec.{eqb, leb}
+use lib.Dec.{leb}
 use lib.ListN.{length}
-use lib.Ieee.{Float, eq}
-use Rattle.floats.specs.Binary64 as B
-use Rattle.floats.specs.Choice.{when◌give◌else◌, ◌and◌}
+use lib.Ieee.{Float}
+use Rattle.floats.specs.Choice.{◌and◌}
 use Rattle.floats.proofs.Choice.{yes, no, both_pass}
 use Rattle.segments.specs.declared.Settings.{Settings}
 use Rattle.segments.specs.Modes.{are_pointed}
@@ -36,7 +35,7 @@ use Rattle.course.specs.Course.{draw_all, none_drawn, end_piece, end_refusal}
 use Rattle.pieces.specs.declared.OpenJob.{OpenJob}
 use Rattle.pieces.specs.declared.DrawAnswer.{DrawAnswer}
 use Rattle.pieces.specs.Calls.{settings_of, most_number, is_open, answering, Called, called, handed_out, staged, ended, refused, shut_answer, drawn_call, draw_call, end_call}
-use Rattle.pieces.specs.InnerSteps.{rows_held, went, none_taken, Ready}
+use Rattle.pieces.specs.InnerSteps.{rows_held}
 
 -- ---- room
 

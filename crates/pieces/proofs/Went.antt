@@ -5,7 +5,7 @@ use mathlib.Core.List.{List, [], ◌∷◌}
 use mathlib.Core.Bool.{Bool, true, false, not, true≢false, false≢true}
 use Prim.Native.Nat.{ℕ, suc, ◌+◌, ◌-◌, ◌*◌, ◌≤◌, ◌<◌}
 use native.Mathlib.Omega.{arith}
-use borrow.Author.Tests.{eqb-true, eqb-false, eq-eqb, ne_eqb, leb-false}
+use borrow.Author.Tests.{eqb-true, eq-eqb, ne_eqb, leb-false}
 use lib.Dec.{eqb, ltb, leb}
 use lib.ListN.{length, drop}
 use lib.Seq.{drop-cons, drop-length}
@@ -23,15 +23,14 @@ use Rattle.moves.proofs.Kept.{length-kept}
 use Rattle.vectors.specs.Plane.{near}
 use Rattle.walk.specs.Walk.{moves_a_segment}
 use Rattle.walk.proofs.Lengths.{moves-few, two-moves, joined-few}
-use Rattle.sheet.specs.InnerSteps.{Contents, Laid, stores, Rooms}
+use Rattle.sheet.specs.InnerSteps.{Laid, stores, Rooms}
 use Rattle.sheet.proofs.Storing.{strokes-few, stores-room, room_fewer}
 use Rattle.sheet.proofs.Products.{product_one}
 use Rattle.course.specs.declared.Course.{Course}
-use Rattle.course.specs.Course.{Step, held, entered, turn_moves, turned, copies, step_on, refusal_of}
-use Rattle.course.specs.InnerSteps.{vertices_by, piece_by, pen_in, copy_stroke, copy_strokes, turn_strokes, step_strokes, early}
+use Rattle.course.specs.Course.{held, entered, turn_moves, turned, copies, step_on, refusal_of}
+use Rattle.course.specs.InnerSteps.{vertices_by, pen_in, copy_stroke, copy_strokes, turn_strokes, step_strokes, early}
 use Rattle.course.proofs.Strokes.{step-piece}
-use Rattle.pieces.specs.declared.Taken.{Taken}
-use Rattle.pieces.specs.InnerSteps.{Went, went, went_one, went_all, Ready}
+use Rattle.pieces.specs.InnerSteps.{Went, went_one, went_all, Ready}
 
 -- ---- the refusal of a vertex
 

@@ -1,6 +1,6 @@
 -- The three calls of an open job whose vertices are drawn (02's 2026-05): start, vertices, end. Each takes the record of the job, and says the answer, the record after it and what
 -- the buffers hold then. Any record is one: where it is none that a job can have, there is no open job. Definitions only.
-use Rattle.std.specs.Prelude.{ℕ, ◌+◌, ◌*◌, ◌-◌, List, Bool, not, eqb, leb, length, Float}
+use Rattle.std.specs.Prelude.{ℕ, ◌*◌, ◌-◌, List, Bool, not, eqb, leb, length, Float}
 use Rattle.floats.specs.Binary64.{zero}
 use Rattle.floats.specs.Choice.{when◌give◌else◌, ◌and◌, ◌or◌}
 use Rattle.segments.specs.declared.Corners.{Corners}

@@ -3,7 +3,6 @@
 -- `proofs/Claim.antt` shows it. Definitions only.
 use Rattle.std.specs.Prelude.{◌≡◌, List, [], ◌∷◌, ◌++◌, true, false, length, take, Float, ℕ, ◌*◌, ◌-◌}
 use Rattle.segments.specs.declared.Settings.{Settings}
-use Rattle.segments.specs.declared.PlineVertex.{PlineVertex}
 use Rattle.source.specs.Source.{rows, vertices_of, vertices_in, Whole}
 use Rattle.moves.specs.Drawing.{Drawing, nothing}
 use Rattle.walk.specs.Walk.{moves_a_segment}

@@ -37,7 +37,7 @@ use Rattle.moves.proofs.Tips.{connector_facts}
 use Rattle.moves.specs.Drawing.{kept, last_point, corners, drawn_open, drawn_closed, finite_vertex, all_finite}
 use Rattle.moves.specs.InnerSteps.{step_of, stroke_of, strokes}
 use Rattle.walk.specs.Walk.{join_at, last_vertex, closing_join, walk_start, walk_moves, walk_drawing, lone_collapsed, drawing_of}
-use Rattle.walk.specs.Spans.{Edge, corners_from, closing_corner, join_in, start_at, end_at, whole_start, whole_end, starts_of, ends_of}
+use Rattle.walk.specs.Spans.{Edge, corners_from, start_at, end_at, whole_start, whole_end, starts_of, ends_of}
 use Rattle.walk.specs.InnerSteps.{Standing, Stood, standing_at, first_entry, entering, after_turn, turn_to, span_to, last_span, drawn_by, strokes_by, pen_by, advance, goes, drawn_on}
 use Rattle.walk.proofs.Turning.{led-undrawn}
 use Rattle.walk.proofs.Around.{open_led, open_drawn, led_in, closed-drawn}

@@ -12,7 +12,7 @@ use Rattle.segments.specs.declared.PlineVertex.{PlineVertex}
 use Rattle.segments.specs.declared.Settings.{Settings}
 use Rattle.source.specs.Source.{Lent, vertices_in, is_whole, segments_of}
 use Rattle.refusals.specs.declared.Refusal.{Refusal}
-use Rattle.refusals.specs.declared.Refusal.TheVariants.{TooMany, BadNumber, Repeated, NotFinite}
+use Rattle.refusals.specs.declared.Refusal.TheVariants.{BadNumber, Repeated}
 use Rattle.refusals.specs.declared.Place.{Place}
 use Rattle.refusals.specs.declared.Place.TheVariants.{Nowhere, At}
 use Rattle.refusals.specs.Limits.{number_tests, repeat_tests, first_of}

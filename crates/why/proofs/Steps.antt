@@ -10,7 +10,6 @@ use lib.ListN.{length}
 use lib.Ieee.{Float, of_bits, is_nan}
 use Rattle.floats.specs.Binary64.{zero}
 use Rattle.floats.specs.Choice.{when◌give◌else◌, ◌and◌}
-use Rattle.floats.proofs.Choice.{yes, no}
 use Rattle.segments.specs.declared.PlineVertex.{PlineVertex}
 use Rattle.segments.specs.declared.Settings.{Settings}
 use Rattle.segments.specs.InnerSteps.{bulge_by}

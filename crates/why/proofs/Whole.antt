@@ -1,6 +1,6 @@
 -- The whole question over a source that is lent, open (`open_whole`) and closed (`closed-whole`), and what each of its tests shows of the answer. Assumes nothing.
 use mathlib.Core.Path.{◌≡◌, refl, sym, ap, ◌∙◌}
-use mathlib.Core.List.{List, [], ◌∷◌, ◌++◌}
+use mathlib.Core.List.{List, [], ◌∷◌}
 use mathlib.Core.Bool.{Bool, true, false, not}
 use Prim.Native.Nat.{ℕ, ◌+◌, ◌*◌, ◌-◌, ◌<◌, ◌≤◌}
 use native.Mathlib.Omega.{arith}
@@ -20,8 +20,8 @@ use Rattle.source.proofs.Segments.{segments-none}
 use Rattle.refusals.specs.declared.Refusal.TheVariants.{Ragged, TooMany, BadNumber, Repeated, NotFinite, NoSuchSegment}
 use Rattle.refusals.specs.declared.Place.TheVariants.{Nowhere, At}
 use Rattle.refusals.specs.Limits.{number_tests, repeat_tests, first_of}
-use Rattle.moves.specs.Drawing.{Drawing, all_finite}
-use Rattle.walk.specs.Walk.{last_vertex, drawing_of, copied}
+use Rattle.moves.specs.Drawing.{all_finite}
+use Rattle.walk.specs.Walk.{drawing_of, copied}
 use Rattle.walk.specs.InnerSteps.{standing_at, Fit}
 use Rattle.sheet.specs.InnerSteps.{routed}
 use Rattle.sheet.proofs.Routes.{length-routed, first_two, others, last-is, open_route, lead_route, around_route}

@@ -1,7 +1,5 @@
 -- `compare::compare` meets its contract. Assumes nothing.
-use mathlib.Core.Path.{◌≡◌, refl, sym, ap, ◌∙◌}
-use borrow.Author.Rules.{rules}
-use borrow.Author.Tests.{not-true, not-false}
+use mathlib.Core.Path.{sym, ◌∙◌}
 use Rattle.compare.specs.Compare.{output}
 use Rattle.compare.proofs.Answers.{few, ragged-first, many-first, ragged-second, many-second, both-good}
 use Rattle.compare.proofs.compare.Goals as goal

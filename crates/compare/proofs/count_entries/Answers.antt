@@ -1,10 +1,9 @@
 -- `compare::count_entries` meets its contract. Assumes nothing.
-use mathlib.Core.Path.{◌≡◌, refl, sym, ap, ◌∙◌}
-use Prim.Native.Nat.{◌+◌, ◌-◌, ◌≤◌}
+use mathlib.Core.Path.{◌≡◌, refl, ap, ◌∙◌}
 use native.Mathlib.Omega.{arith}
 use lib.ListN.{length}
 use Rattle.source.specs.Source.{vertices_of}
-use Rattle.compare.specs.Compare.{fields_at, entries_for, entries_to}
+use Rattle.compare.specs.Compare.{entries_for, entries_to}
 use Rattle.compare.proofs.Entries.{length-next}
 use Rattle.compare.proofs.count_entries.Goals as goal
 

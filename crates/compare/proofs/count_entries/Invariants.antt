@@ -1,11 +1,9 @@
 -- `compare::count_entries` meets its contract. Assumes nothing.
-use mathlib.Core.Path.{◌≡◌, refl, sym, ap, ◌∙◌}
-use Prim.Native.Nat.{◌+◌, ◌-◌, ◌≤◌}
-use native.Mathlib.Omega.{arith}
+use mathlib.Core.Path.{◌≡◌}
+use Prim.Native.Nat.{◌-◌, ◌≤◌}
 use lib.ListN.{length}
 use Rattle.source.specs.Source.{vertices_of}
-use Rattle.compare.specs.Compare.{fields_at, entries_for, entries_to}
-use Rattle.compare.proofs.Entries.{length-next}
+use Rattle.compare.specs.Compare.{entries_to}
 use Rattle.compare.proofs.count_entries.Given as goal
 
 abbrev pub invariant-loop-k : goal.invariant-loop-k

@@ -1,5 +1,4 @@
 -- `compare::fields_at` meets its contract. Assumes nothing.
-use borrow.Author.Rules.{rules}
 use Rattle.source.specs.InnerSteps.{vertex_of}
 use Rattle.compare.specs.Compare.{fields_at}
 use Rattle.compare.proofs.fields_at.Goals as goal

@@ -1,6 +1,5 @@
 -- `compare::flag_at` meets its contract. Assumes nothing.
 use mathlib.Core.Path.{sym}
-use borrow.Author.Rules.{rules}
 use lib.ListN.{get_or-eq_default}
 use Rattle.compare.proofs.flag_at.Goals as goal
 

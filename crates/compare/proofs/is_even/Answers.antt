@@ -1,5 +1,5 @@
 -- `compare::is_even` meets its contract. Assumes nothing.
-use mathlib.Core.Path.{refl, sym, ◌∙◌}
+use mathlib.Core.Path.{sym, ◌∙◌}
 use Rattle.floats.proofs.Choice.{and_yes, and_no}
 use Rattle.source.proofs.Source.{length-vertices}
 use Rattle.compare.specs.Compare.{is_even}

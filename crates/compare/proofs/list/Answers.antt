@@ -1,14 +1,10 @@
 -- `compare::list` meets its contract. Assumes nothing.
-use mathlib.Core.Path.{◌≡◌, refl, sym, ap, ◌∙◌}
-use mathlib.Core.List.{List}
-use Prim.Native.Nat.{◌≤◌}
+use mathlib.Core.Path.{sym, ap, ◌∙◌}
 use native.Mathlib.Omega.{arith}
-use borrow.Author.Rules.{rules}
-use borrow.Author.Tests.{not-true, not-false}
 use lib.ListN.{length}
 use Rattle.source.specs.Source.{vertices_of}
 use Rattle.source.proofs.Source.{length-vertices}
-use Rattle.compare.specs.Compare.{output, has_room, entries_to, list_of}
+use Rattle.compare.specs.Compare.{output, entries_to}
 use Rattle.compare.proofs.Answers.{fits, list-is, no_room, listed}
 use Rattle.compare.proofs.list.Goals as goal
 

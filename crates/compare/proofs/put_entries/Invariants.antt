@@ -1,14 +1,10 @@
 -- `compare::put_entries` meets its contract. Assumes nothing.
-use mathlib.Core.Path.{◌≡◌, refl, sym, ap, ◌∙◌}
-use mathlib.Core.List.{List, map}
-use Prim.Native.Nat.{ℕ, ◌+◌, ◌-◌, ◌≤◌, ◌<◌}
-use native.Mathlib.Omega.{arith}
+use mathlib.Core.Path.{◌≡◌}
+use mathlib.Core.List.{map}
+use Prim.Native.Nat.{◌-◌, ◌≤◌}
 use lib.ListN.{length}
-use lib.Seq.{sets, length-sets}
 use Rattle.source.specs.Source.{vertices_of}
-use Rattle.compare.specs.declared.Fields.{Fields}
-use Rattle.compare.specs.Compare.{fields_at, entries_for, entries_to, number_in, code_in, at_front}
-use Rattle.compare.proofs.Entries.{length-next, entries_mono, list-next}
+use Rattle.compare.specs.Compare.{entries_to, number_in, code_in, at_front}
 use Rattle.compare.proofs.put_entries.Given as goal
 
 abbrev pub invariant-loop-k : goal.invariant-loop-k

@@ -1,9 +1,6 @@
 -- `compare::put_entry` meets its contract. Assumes nothing.
-use mathlib.Core.Path.{◌≡◌, sym, ap, ◌∙◌}
-use mathlib.Core.Bool.{true}
+use mathlib.Core.Path.{sym, ap, ◌∙◌}
 use native.Mathlib.Omega.{arith}
-use borrow.Author.Rules.{rules}
-use borrow.Author.Tests.{not-true, not-false}
 use lib.ListN.{length}
 use Rattle.compare.proofs.Entries.{one_entry, put-none, put_one}
 use Rattle.compare.proofs.put_entry.Goals as goal

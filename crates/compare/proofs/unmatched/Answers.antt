@@ -14,13 +14,13 @@ overflow_sub-result c = search rules
 pub returns-then-v-w : goal.returns-then-v-w
 unfolding unmatched
 returns-then-v-w c = record {
-      value = yes _ _ _ (lt-ltb _ _ c.if-v-w.true) refl;
-      upper_bound = omega arith;
-    }
+  value = yes _ _ _ (lt-ltb _ _ c.if-v-w.true) refl;
+  upper_bound = omega arith;
+}
 
 pub returns-else-v-w : goal.returns-else-v-w
 unfolding unmatched
 returns-else-v-w c = record {
-      value = no _ _ _ (le-ltb _ _ c.if-v-w.false) refl;
-      upper_bound = omega arith;
-    }
+  value = no _ _ _ (le-ltb _ _ c.if-v-w.false) refl;
+  upper_bound = omega arith;
+}

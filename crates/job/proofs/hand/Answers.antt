@@ -1,6 +1,4 @@
 -- `job::hand` meets its contract. Assumes nothing.
-use borrow.Author.Rules.{rules}
-use mathlib.Core.Path.{◌∙◌}
 use Rattle.moves.proofs.Laws.{byte_bit}
 use Rattle.job.specs.Handed.{five_of}
 use Rattle.job.proofs.hand.Goals as goal

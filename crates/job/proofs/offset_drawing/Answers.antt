@@ -1,5 +1,4 @@
 -- `job::offset_drawing` meets its contract: its tests are those of the job, in their order. Assumes nothing.
-use borrow.Author.Rules.{rules}
 use mathlib.Core.Path.{sym, ◌∙◌}
 use Rattle.job.proofs.Ends.{told-ragged, told-whole, told-count, ragged-ends, many-ends, bad-ends, few-ends, good-ends}
 use Rattle.job.proofs.offset_drawing.Goals as goal

@@ -1,5 +1,4 @@
 -- `job::offset_good` meets its contract. Assumes nothing.
-use borrow.Author.Rules.{rules}
 use native.Mathlib.Omega.{arith}
 use Rattle.job.proofs.Ends.{told-count, few-places, drawable, copyable, no_room, zero-offset, nonzero-offset}
 use Rattle.job.proofs.offset_good.Goals as goal

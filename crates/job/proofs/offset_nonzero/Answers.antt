@@ -1,5 +1,4 @@
 -- `job::offset_nonzero` meets its contract. Assumes nothing.
-use borrow.Author.Rules.{rules}
 use mathlib.Core.Path.{sym, ◌∙◌}
 use Rattle.job.proofs.Ends.{repeated-ends, drawn-ends}
 use Rattle.job.proofs.offset_nonzero.Goals as goal

@@ -1,5 +1,4 @@
 -- `layers::layers_angle` meets its contract. Assumes nothing.
-use borrow.Author.Rules.{rules}
 use Rattle.layers.proofs.layers_angle.Goals as goal
 
 pub returns : goal.returns

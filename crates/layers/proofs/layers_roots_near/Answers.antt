@@ -1,7 +1,6 @@
 -- `layers::layers_roots_near` meets its contract. Assumes nothing.
 use mathlib.Core.Path.{ap}
 use mathlib.Core.List.{[], ◌∷◌}
-use borrow.Author.Rules.{rules}
 use Rattle.floats.specs.declared.Roots.{Roots}
 use Rattle.layers.proofs.layers_roots_near.Goals as goal
 

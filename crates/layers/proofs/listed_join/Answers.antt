@@ -1,8 +1,6 @@
 -- `layers::listed_join` meets its contract. Assumes nothing.
-use mathlib.Core.Path.{refl}
 use Prim.Native.Nat.{◌≤◌}
 use native.Mathlib.Omega.{arith}
-use borrow.Author.Rules.{rules}
 use Rattle.meetings.specs.declared.ArcRule.{ArcRule}
 use Rattle.meetings.specs.declared.ArcRule.TheVariants as Rule
 use Rattle.meetings.specs.Rules.{rule_number}

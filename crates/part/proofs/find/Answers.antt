@@ -1,7 +1,6 @@
 -- `part::find` meets its contract. Assumes nothing.
 use mathlib.Core.Path.{sym, ap, ◌∙◌}
 use native.Mathlib.Omega.{arith}
-use borrow.Author.Rules.{rules}
 use lib.ListN.{length, take}
 use Rattle.moves.specs.Origins.{origins_in}
 use Rattle.moves.proofs.Origins.{origins-length}

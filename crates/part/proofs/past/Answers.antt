@@ -1,12 +1,8 @@
 -- `part::past`: the loop keeps that the row from its place on goes on as far as from where it started. Assumes nothing.
 use mathlib.Core.Path.{◌≡◌, refl, sym, ap, ◌∙◌}
-use Prim.Native.Nat.{◌+◌, ◌-◌, ◌≤◌}
 use native.Mathlib.Omega.{arith}
-use borrow.Author.Rules.{rules}
-use borrow.Author.Tests.{not-true, not-false}
-use lib.ListN.{take, drop}
-use Rattle.moves.specs.Origins.{origin_of, origins_in}
-use Rattle.part.specs.Part.{naming, front}
+use Rattle.moves.specs.Origins.{origin_of}
+use Rattle.part.specs.Part.{naming}
 use Rattle.part.proofs.Front.{passes, stops, ends, looked_length, looked_at}
 use Rattle.part.proofs.past.Goals as goal
 

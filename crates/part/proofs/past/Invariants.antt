@@ -1,13 +1,9 @@
 -- `part::past`: the loop keeps that the row from its place on goes on as far as from where it started. Assumes nothing.
-use mathlib.Core.Path.{◌≡◌, refl, sym, ap, ◌∙◌}
+use mathlib.Core.Path.{◌≡◌}
 use Prim.Native.Nat.{◌+◌, ◌-◌, ◌≤◌}
-use native.Mathlib.Omega.{arith}
-use borrow.Author.Rules.{rules}
-use borrow.Author.Tests.{not-true, not-false}
 use lib.ListN.{take, drop}
-use Rattle.moves.specs.Origins.{origin_of, origins_in}
-use Rattle.part.specs.Part.{naming, front}
-use Rattle.part.proofs.Front.{passes, stops, ends, looked_length, looked_at}
+use Rattle.moves.specs.Origins.{origins_in}
+use Rattle.part.specs.Part.{front}
 use Rattle.part.proofs.past.Given as goal
 
 abbrev pub invariant-loop-i : goal.invariant-loop-i

@@ -1,8 +1,6 @@
 -- `pieces::end` meets its contract. Assumes nothing.
-use borrow.Author.Rules.{rules}
 use mathlib.Core.Path.{sym, ap, ◌∙◌}
 use mathlib.Core.Bool.{not}
-use borrow.Author.Tests.{not-false}
 use native.Mathlib.Omega.{arith}
 use Rattle.pieces.proofs.Tested.{open_facts, end-shut, end_roomless, end_goes, end-endless, room_tested, room_had}
 use Rattle.segments.specs.declared.Settings.{Settings}

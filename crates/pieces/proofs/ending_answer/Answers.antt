@@ -1,5 +1,4 @@
 -- `pieces::ending_answer` meets its contract. Assumes nothing.
-use borrow.Author.Rules.{rules}
 use native.Mathlib.Omega.{arith}
 use Rattle.moves.proofs.Laws.{byte_small, byte_bit}
 use Rattle.pieces.proofs.ending_answer.Goals as goal

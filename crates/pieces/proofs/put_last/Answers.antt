@@ -1,5 +1,4 @@
 -- `pieces::put_last` meets its contract. Assumes nothing.
-use borrow.Author.Rules.{rules}
 use Rattle.pieces.proofs.Stored.{put-rows}
 use Rattle.pieces.proofs.put_last.Goals as goal
 

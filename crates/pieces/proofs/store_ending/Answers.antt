@@ -1,5 +1,4 @@
 -- `pieces::store_ending` meets its contract. Assumes nothing.
-use borrow.Author.Rules.{rules}
 use native.Mathlib.Omega.{arith}
 use Rattle.sheet.proofs.Storing.{drawn-few, room_fewer}
 use Rattle.pieces.proofs.Last.{few-places, last-place, unended, with-last}

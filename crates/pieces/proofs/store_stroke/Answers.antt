@@ -1,5 +1,4 @@
 -- `pieces::store_stroke` meets its contract. Assumes nothing.
-use borrow.Author.Rules.{rules}
 use Rattle.pieces.proofs.Stored.{store-rows, store-room}
 use Rattle.pieces.proofs.store_stroke.Goals as goal
 

@@ -1,6 +1,5 @@
 -- `pieces::store_turning` meets its contract. Assumes nothing.
-use borrow.Author.Rules.{rules}
-use mathlib.Core.Path.{refl, ap, ◌∙◌}
+use mathlib.Core.Path.{◌∙◌}
 use Rattle.pieces.proofs.Stored.{three-stored, first-room, second-room, third-room}
 use Rattle.pieces.proofs.store_turning.Goals as goal
 

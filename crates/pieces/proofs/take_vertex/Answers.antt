@@ -1,5 +1,4 @@
 -- `pieces::take_vertex` meets its contract. Assumes nothing.
-use borrow.Author.Rules.{rules}
 use mathlib.Core.Path.{sym, ◌∙◌}
 use native.Mathlib.Omega.{arith}
 use Rattle.pieces.proofs.Went.{refused-early, refused-endless, not-refused, soon_taken, strokes-fit, went_old, went-refused, went-taken}

@@ -1,11 +1,7 @@
 -- `pieces::take_vertices` meets its contract. Assumes nothing.
-use mathlib.Core.Path.{◌≡◌, refl, ◌∙◌}
-use Prim.Native.Nat.{◌-◌}
+use mathlib.Core.Path.{refl, ◌∙◌}
 use native.Mathlib.Omega.{arith}
-use lib.ListN.{length}
-use Rattle.source.specs.Source.{vertices_of}
-use Rattle.pieces.specs.InnerSteps.{rows_held, went, went_all}
-use Rattle.pieces.proofs.Went.{Going, going_none, going_one, going_done, ready-one}
+use Rattle.pieces.proofs.Went.{going_none, going_one, going_done, ready-one}
 use Rattle.pieces.proofs.take_vertices.Goals as goal
 
 pub loop-k-init : goal.loop-k-init

@@ -1,11 +1,10 @@
 -- `pieces::take_vertices` meets its contract. Assumes nothing.
-use mathlib.Core.Path.{◌≡◌, refl, ◌∙◌}
+use mathlib.Core.Path.{◌≡◌}
 use Prim.Native.Nat.{◌-◌}
-use native.Mathlib.Omega.{arith}
 use lib.ListN.{length}
 use Rattle.source.specs.Source.{vertices_of}
 use Rattle.pieces.specs.InnerSteps.{rows_held, went, went_all}
-use Rattle.pieces.proofs.Went.{Going, going_none, going_one, going_done, ready-one}
+use Rattle.pieces.proofs.Went.{Going}
 use Rattle.pieces.proofs.take_vertices.Given as goal
 
 abbrev pub invariant-loop-k : goal.invariant-loop-k

@@ -1,5 +1,5 @@
 -- `why::ask_closed` meets its contract. Assumes nothing.
-use mathlib.Core.Path.{ap, ◌∙◌}
+use mathlib.Core.Path.{◌∙◌}
 use native.Mathlib.Omega.{arith}
 use Rattle.why.proofs.Whole.{turns_added, none_added, ready-first, closed-asked}
 use Rattle.why.proofs.ask_closed.Goals as goal

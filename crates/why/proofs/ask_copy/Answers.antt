@@ -1,5 +1,4 @@
 -- `why::ask_copy` meets its contract. Assumes nothing.
-use borrow.Author.Rules.{rules}
 use borrow.Author.Tests.{lt-ltb, le-ltb}
 use mathlib.Core.Path.{◌≡◌, refl}
 use lib.Ieee.{Float}

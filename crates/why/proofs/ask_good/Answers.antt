@@ -1,5 +1,4 @@
 -- `why::ask_good` meets its contract. Assumes nothing.
-use borrow.Author.Rules.{rules}
 use mathlib.Core.Path.{sym, ◌∙◌}
 use Rattle.why.proofs.Whole.{copy-good, repeated-good, drawn-good}
 use Rattle.why.proofs.ask_good.Goals as goal

@@ -1,10 +1,6 @@
 -- `why::ask_turns` meets its contract. Assumes nothing.
-use Prim.Native.Nat.{◌-◌}
 use native.Mathlib.Omega.{arith}
-use Rattle.source.specs.Source.{vertices_of}
-use Rattle.sheet.specs.InnerSteps.{routed}
-use Rattle.why.specs.InnerSteps.{asked, asks}
-use Rattle.why.proofs.Turns.{Asks, asks_none, asks-turn, asks-done}
+use Rattle.why.proofs.Turns.{asks_none, asks-turn, asks-done}
 use Rattle.why.proofs.ask_turns.Goals as goal
 
 pub loop-turn-init : goal.loop-turn-init

@@ -1,5 +1,4 @@
 -- `why::why` meets its contract: its tests are those of the answer, in their order. Assumes nothing.
-use borrow.Author.Rules.{rules}
 use borrow.Author.Tests.{ne_eqb}
 use mathlib.Core.Path.{sym, ◌∙◌}
 use Rattle.source.specs.Source.{rows}
@@ -15,9 +14,9 @@ returns-then-v-gt-MOST_VERTICES c = many-why (rows _) _ _ _ c.if-source-ne0.fals
 
 pub first_bad_number-bad-requires : goal.first_bad_number-bad-requires
 first_bad_number-bad-requires c = record {
-      v_bound = c.if-v-gt-MOST_VERTICES.false;
-      v_value = sym (length-vertices _);
-    }
+  v_bound = c.if-v-gt-MOST_VERTICES.false;
+  v_value = sym (length-vertices _);
+}
 
 pub returns-in-At : goal.returns-in-At
 returns-in-At c =

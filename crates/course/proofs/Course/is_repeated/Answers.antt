@@ -1,5 +1,4 @@
 -- `course::Course::is_repeated` meets its contract. Assumes nothing.
-use mathlib.Core.Path.{refl}
 use borrow.Author.Tests.{lt-ltb, le-ltb}
 use Rattle.floats.proofs.Choice.{and_yes, and_no}
 use Rattle.course.proofs.Course.is_repeated.Goals as goal

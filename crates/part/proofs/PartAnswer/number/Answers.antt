@@ -1,5 +1,4 @@
 -- `part::PartAnswer::number` meets its contract. Assumes nothing.
-use borrow.Author.Rules.{rules}
 use Rattle.part.proofs.PartAnswer.number.Goals as goal
 
 pub returns-in-Refused : goal.returns-in-Refused

@@ -1,6 +1,5 @@
 -- `pieces::OpenJob::after` meets its contract. Assumes nothing.
 use mathlib.Core.Path.{refl}
-use borrow.Author.Rules.{rules}
 use borrow.Author.Tests.{eq-eqb, ne_eqb}
 use Rattle.floats.proofs.Choice.{yes, no}
 use Rattle.pieces.specs.InnerSteps.{taken_answer, taken_job}

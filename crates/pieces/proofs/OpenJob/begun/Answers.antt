@@ -1,5 +1,4 @@
 -- `pieces::OpenJob::begun` meets its contract. Assumes nothing.
-use borrow.Author.Rules.{rules}
 use Rattle.pieces.proofs.Records.{mode_byte}
 use Rattle.pieces.proofs.OpenJob.begun.Goals as goal
 

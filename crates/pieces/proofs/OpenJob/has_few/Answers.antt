@@ -1,5 +1,4 @@
 -- `pieces::OpenJob::has_few` meets its contract. Assumes nothing.
-use borrow.Author.Rules.{rules}
 use native.Mathlib.Omega.{arith}
 use Rattle.job.proofs.Ends.{moves-most}
 use Rattle.sheet.proofs.Products.{product_most}

@@ -1,7 +1,4 @@
 -- `why::Note::step` meets its contract. Assumes nothing.
-use borrow.Author.Rules.{rules}
-use borrow.Author.Tests.{not-true, not-false}
-use mathlib.Core.Path.{sym, ◌∙◌}
 use Rattle.moves.proofs.Finite.{doubt-more}
 use Rattle.why.proofs.Steps.{step-none, step-drawn}
 use Rattle.why.proofs.Note.step.Goals as goal

@@ -1,6 +1,5 @@
 -- `why::Note::tip` meets its contract. Assumes nothing.
 use mathlib.Core.Path.{refl, sym, ◌∙◌}
-use borrow.Author.Tests.{not-true, not-false}
 use Rattle.moves.proofs.Tips.{tip-none, tip-some}
 use Rattle.why.specs.InnerSteps.{notes_of}
 use Rattle.why.proofs.Note.tip.Goals as goal

@@ -1,5 +1,4 @@
 -- `why::Telling::numbers` meets its contract. Assumes nothing.
-use borrow.Author.Rules.{rules}
 use Rattle.moves.proofs.Laws.{byte_bit}
 use Rattle.why.proofs.Telling.numbers.Goals as goal
 

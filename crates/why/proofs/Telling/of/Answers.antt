@@ -1,5 +1,4 @@
 -- `why::Telling::of` meets its contract. Assumes nothing.
-use borrow.Author.Rules.{rules}
 use Rattle.why.proofs.Telling.of.Goals as goal
 
 pub returns-in-Span : goal.returns-in-Span

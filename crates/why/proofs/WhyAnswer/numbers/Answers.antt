@@ -1,5 +1,4 @@
 -- `why::WhyAnswer::numbers` meets its contract. Assumes nothing.
-use borrow.Author.Rules.{rules}
 use Rattle.why.proofs.WhyAnswer.numbers.Goals as goal
 
 pub returns-in-Told : goal.returns-in-Told
