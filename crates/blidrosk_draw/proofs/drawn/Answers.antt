@@ -1,5 +1,4 @@
 -- `blidrosk_draw::drawn` meets its contract. Assumes nothing.
-use borrow.Author.Rules.{rules}
 use mathlib.Core.Path.{ap}
 use Rattle.pieces.specs.Calls.{Called}
 use Rattle.pieces.specs.Handed.{call_handed}

@@ -1,5 +1,4 @@
 -- `blidrosk_draw::started` meets its contract. Assumes nothing.
-use borrow.Author.Rules.{rules}
 use mathlib.Core.Path.{ap, ◌∙◌}
 use Rattle.segments.specs.declared.Settings.{Settings}
 use Rattle.pieces.specs.Calls.{Started, start_call}
