@@ -723,7 +723,7 @@ fn draw_around(
     ensures { finished result (held columns outxs.new outys.new outbulges.new flags.new indexes.new origins.new)
         ≡ closes room led.walk.entry settings.eps (advances true settings (routed v (v - 1) (next_of v 1) (vertices_in (lent_by columns xs.now ys.now bulges.now))) (trail led (held columns outxs.old outys.old outbulges.old flags.old indexes.old origins.old))) }
 {
-    let walk = led.walk;
+    let entry = led.walk.entry;
     let next = source::next_place(v, 1);
     let sheet = store_turns(
         columns,
@@ -753,7 +753,7 @@ fn draw_around(
         indexes,
         origins,
         sheet,
-        walk.entry,
+        entry,
         pointed,
         settings.eps,
         room,
