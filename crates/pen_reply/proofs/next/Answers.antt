@@ -6,9 +6,9 @@ pub returns-then-bytes-eq0 : goal.returns-then-bytes-eq0
 returns-then-bytes-eq0 c =
     record {
       prefix_len = c.end.ensures.prefix_len;
-      written_value = rw (next-end _ _ c.if-bytes-eq0.true) c.end.ensures.written_value;
-      text_after = rw (next-end _ _ c.if-bytes-eq0.true) c.end.ensures.text_after;
-      bytes_value = rw (next-end _ _ c.if-bytes-eq0.true) c.end.ensures.job_value;
+      written_value = rw (next-end c.args.job c.args.bytes.now c.if-bytes-eq0.true) c.end.ensures.written_value;
+      text_after = rw (next-end c.args.job c.args.bytes.now c.if-bytes-eq0.true) c.end.ensures.text_after;
+      bytes_value = rw (next-end c.args.job c.args.bytes.now c.if-bytes-eq0.true) c.end.ensures.job_value;
     }
 
 pub returns-then-bytes-eq24 : goal.returns-then-bytes-eq24

@@ -40,7 +40,7 @@ returns-then-not-good_corners c =
     let two : c.args.v + 2 ≡ c.args.v + 1 + 1 = omega arith in
     ap At two
     ∙ first_found _ _ (ratio_test _ _ _ c.requires.v_value ∙ (cc))
-    ∙ first_step _ _ (eps_test _ _ _ c.requires.v_value ∙ (cc))
+    ∙ first_step _ _ (eps_test _ _ _ c.requires.v_value ∙ (search rules))
     ∙ first_step _ _ (offset_test _ _ _ c.requires.v_value ∙ (cc))
     ∙ rw ended at c.loop-k.invariant.1
 
