@@ -1,5 +1,4 @@
 -- `blidrosk_columns_pointed::blidrosk_raw_offset_columns_pointed` meets its contract. Assumes nothing.
-use borrow.Author.Rules.{rules}
 use mathlib.Core.Path.{ap}
 use Rattle.job.specs.Job.{Outcome}
 use Rattle.job.specs.Handed.{handed_of}

@@ -1,6 +1,5 @@
 -- `blidrosk_compare::blidrosk_compare` meets its contract. Assumes nothing.
 use mathlib.Core.Path.{ap}
-use borrow.Author.Rules.{rules}
 use Rattle.compare.specs.Compare.{Outcome}
 use Rattle.blidrosk_compare.specs.Handed.{handed_of}
 use Rattle.blidrosk_compare.proofs.blidrosk_compare.Goals as goal

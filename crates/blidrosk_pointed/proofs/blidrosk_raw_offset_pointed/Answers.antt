@@ -1,8 +1,7 @@
 -- `blidrosk_pointed::blidrosk_raw_offset_pointed` meets its contract. Assumes nothing.
-use borrow.Author.Rules.{rules}
-use mathlib.Core.Path.{ap, ◌∙◌}
+use mathlib.Core.Path.{ap}
 use Rattle.job.specs.Job.{Outcome}
-use Rattle.job.specs.Handed.{handed, handed_of}
+use Rattle.job.specs.Handed.{handed_of}
 use Rattle.blidrosk_pointed.proofs.blidrosk_raw_offset_pointed.Goals as goal
 
 pub returns : goal.returns

@@ -1,5 +1,4 @@
 -- `blidrosk_why::blidrosk_why` meets its contract. Assumes nothing.
-use borrow.Author.Rules.{rules}
 use mathlib.Core.Path.{◌∙◌}
 use Rattle.blidrosk_why.proofs.blidrosk_why.Goals as goal
 

@@ -1,5 +1,4 @@
 -- `blidrosk_why_pointed::blidrosk_why_pointed` meets its contract. Assumes nothing.
-use borrow.Author.Rules.{rules}
 use mathlib.Core.Path.{◌∙◌}
 use Rattle.blidrosk_why_pointed.proofs.blidrosk_why_pointed.Goals as goal
 

@@ -1,5 +1,5 @@
 -- Every edge is within the table. Assumes nothing.
-use Rattle.std.proofs.Common.{◌-◌, ◌≤◌, arith, rules}
+use Rattle.std.proofs.Common.{◌-◌, ◌≤◌}
 use Rattle.floats_main.proofs.near_edges.Given as goal
 
 abbrev pub invariant-loop-i : goal.invariant-loop-i

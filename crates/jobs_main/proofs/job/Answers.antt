@@ -1,5 +1,5 @@
 -- What is lent has as many places as were asked for, or all. Assumes nothing.
-use Rattle.std.proofs.Common.{sym, length-take-le, rules}
+use Rattle.std.proofs.Common.{sym, length-take-le}
 use Rattle.jobs_main.proofs.job.Goals as goal
 
 pub slice_bounds-offset-end : goal.slice_bounds-offset-end

@@ -1,5 +1,5 @@
 -- The rows are counted up to the count that was read. Assumes nothing.
-use Rattle.std.proofs.Common.{◌-◌, ◌≤◌, arith, rules}
+use Rattle.std.proofs.Common.{◌-◌, ◌≤◌}
 use Rattle.jobs_main.proofs.rows.Given as goal
 
 abbrev pub invariant-loop : goal.invariant-loop

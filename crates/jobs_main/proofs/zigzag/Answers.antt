@@ -1,5 +1,5 @@
 -- The three places of each vertex lie in the slice. Assumes nothing.
-use Rattle.std.proofs.Common.{◌≡◌, ◌-◌, ◌*◌, ◌≤◌, length, arith, length-set, rules}
+use Rattle.std.proofs.Common.{arith, length-set}
 use Rattle.jobs_main.proofs.zigzag.Goals as goal
 
 pub bounds-source-i-in-loop-i : goal.bounds-source-i-in-loop-i

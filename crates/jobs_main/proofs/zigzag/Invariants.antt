@@ -1,5 +1,5 @@
 -- The three places of each vertex lie in the slice. Assumes nothing.
-use Rattle.std.proofs.Common.{◌≡◌, ◌-◌, ◌*◌, ◌≤◌, length, arith, length-set, rules}
+use Rattle.std.proofs.Common.{◌≡◌, ◌*◌, ◌≤◌, length}
 use Rattle.jobs_main.proofs.zigzag.Given as goal
 
 abbrev pub invariant-loop-i : goal.invariant-loop-i

@@ -1,7 +1,5 @@
 -- The rows are counted up to the bound. Assumes nothing.
 use Prim.Native.Nat.{◌≤◌, ◌-◌}
-use borrow.Author.Rules.{rules}
-use native.Mathlib.Omega.{arith}
 use Rattle.joins_main.proofs.main.Given as goal
 
 abbrev pub invariant-loop : goal.invariant-loop

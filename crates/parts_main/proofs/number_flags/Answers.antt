@@ -1,8 +1,5 @@
 -- Each place lies in the slice, and each number in a byte. Assumes nothing.
-use mathlib.Core.Path.{◌≡◌}
-use Prim.Native.Nat.{◌≤◌, ◌-◌}
-use lib.ListN.{length, length-set}
-use borrow.Author.Rules.{rules}
+use lib.ListN.{length-set}
 use native.Mathlib.Omega.{arith}
 use Rattle.parts_main.proofs.number_flags.Goals as goal
 

@@ -1,8 +1,6 @@
 -- Each place lies in the slice, whose length is the end. Assumes nothing.
-use Prim.Native.Nat.{◌≤◌, ◌-◌}
+use Prim.Native.Nat.{◌≤◌}
 use lib.ListN.{length}
-use borrow.Author.Rules.{rules}
-use native.Mathlib.Omega.{arith}
 use Rattle.parts_main.proofs.print_flags.Given as goal
 
 abbrev pub invariant-loop-i : goal.invariant-loop-i

@@ -1,8 +1,5 @@
 -- Each place that is read into lies in the slice. Assumes nothing.
-use mathlib.Core.Path.{◌≡◌}
-use Prim.Native.Nat.{◌≤◌, ◌-◌}
-use lib.ListN.{length, length-set}
-use borrow.Author.Rules.{rules}
+use lib.ListN.{length-set}
 use native.Mathlib.Omega.{arith}
 use Rattle.parts_main.proofs.read_origins.Goals as goal
 

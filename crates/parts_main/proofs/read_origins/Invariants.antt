@@ -1,9 +1,7 @@
 -- Each place that is read into lies in the slice. Assumes nothing.
 use mathlib.Core.Path.{◌≡◌}
-use Prim.Native.Nat.{◌≤◌, ◌-◌}
-use lib.ListN.{length, length-set}
-use borrow.Author.Rules.{rules}
-use native.Mathlib.Omega.{arith}
+use Prim.Native.Nat.{◌≤◌}
+use lib.ListN.{length}
 use Rattle.parts_main.proofs.read_origins.Given as goal
 
 abbrev pub invariant-loop-i : goal.invariant-loop-i

@@ -1,7 +1,6 @@
 -- There are as many flags and origins as were asked for, or all. Assumes nothing.
 use mathlib.Core.Path.{sym}
 use lib.Seq.{length-take-le}
-use borrow.Author.Rules.{rules}
 use Rattle.parts_main.proofs.tell_first.Goals as goal
 
 pub slice_bounds-tell-end : goal.slice_bounds-tell-end

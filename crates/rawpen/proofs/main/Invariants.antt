@@ -1,7 +1,5 @@
 -- `main` ends. Assumes nothing.
-use borrow.Author.Rules.{rules}
 use Prim.Native.Nat.{◌-◌}
-use native.Mathlib.Omega.{arith}
 use Rattle.rawpen.proofs.main.Given as goal
 
 abbrev pub invariant-loop-k : goal.invariant-loop-k

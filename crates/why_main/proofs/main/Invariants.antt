@@ -1,7 +1,5 @@
 -- The rows are counted up to the count that was read. Assumes nothing.
 use Prim.Native.Nat.{◌≤◌, ◌-◌}
-use borrow.Author.Rules.{rules}
-use native.Mathlib.Omega.{arith}
 use Rattle.why_main.proofs.main.Given as goal
 
 abbrev pub invariant-loop : goal.invariant-loop

@@ -1,7 +1,5 @@
 -- The segments are counted up to the most that there can be. Assumes nothing.
 use Prim.Native.Nat.{◌≤◌, ◌-◌}
-use borrow.Author.Rules.{rules}
-use native.Mathlib.Omega.{arith}
 use Rattle.why_main.proofs.tell_each.Given as goal
 
 abbrev pub invariant-loop-segment : goal.invariant-loop-segment

@@ -1,7 +1,6 @@
 -- The job's source has as many numbers as were asked for, or all. Assumes nothing.
 use mathlib.Core.Path.{sym}
 use lib.Seq.{length-take-le}
-use borrow.Author.Rules.{rules}
 use Rattle.why_main.proofs.tell_job.Goals as goal
 
 pub slice_bounds-tell_each-end : goal.slice_bounds-tell_each-end
