@@ -9,9 +9,9 @@ use native.Mathlib.Nat.{eq-or-lt_of_le}
 use native.Mathlib.Omega.{arith}
 use lib.ListN.{length, get_or}
 use lib.Ieee.{neg}
+use Rattle.std.specs.Prelude.{None, Some}
 use Rattle.segments.specs.declared.PlineVertex.{PlineVertex}
 use Rattle.segments.specs.declared.Settings.{Settings}
-use Rattle.refusals.specs.declared.Place.TheVariants.{Nowhere, At}
 use Rattle.refusals.specs.Limits.{reach, least_eps, most_eps, good_vertex, good_offset, good_eps, good_corners, number_tests, first_of}
 use Rattle.refusals.specs.Rows.{Bad, BadVertex, VertexIs, NoneBadBefore, NumberRow, vertex, by-offset, by-eps, by-ratio}
 use Rattle.refusals.proofs.First.{first-row, nowhere_row}
@@ -92,10 +92,10 @@ module _ (vs : List PlineVertex) (σ : Settings) where
   row→first (by-eps n m b) = (at-eps b, λ (j : ℕ) h q. none_yet q h n m)
   row→first (by-ratio n m l ratio e b) = (at-ratio (ratio, e, b), λ (j : ℕ) h q. none_still q h n m l)
 
-  pub number-row : (k : ℕ) → (first_of (number_tests vs σ) ≡ At k) ↔ NumberRow vs σ k
+  pub number-row : (k : ℕ) → (first_of (number_tests vs σ) ≡ Some k) ↔ NumberRow vs σ k
   number-row k =
       Iff.trans (first-row (number_tests vs σ) BadAt (λ (j : ℕ). (test→bad j, bad→test)) k)
       (λ (r : BadAt k × ((j : ℕ) → j < k → BadAt j → ⊥)). first→row r.0 r.1, row→first)
 
-  pub number_nowhere : (first_of (number_tests vs σ) ≡ Nowhere) ↔ ((k : ℕ) → NumberRow vs σ k → ⊥)
+  pub number_nowhere : (first_of (number_tests vs σ) ≡ None) ↔ ((k : ℕ) → NumberRow vs σ k → ⊥)
   number_nowhere = nowhere_row (first_of (number_tests vs σ)) (NumberRow vs σ) number-row

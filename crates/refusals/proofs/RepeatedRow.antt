@@ -10,10 +10,10 @@ use native.Mathlib.Nat.{eq-or-lt_of_le}
 use native.Mathlib.Omega.{arith}
 use lib.ListN.{length, get_or}
 use lib.Ieee.{eq}
+use Rattle.std.specs.Prelude.{None, Some}
 use Rattle.floats.specs.Choice.{when◌give◌else◌}
 use Rattle.floats.proofs.Choice.{both_pass}
 use Rattle.segments.specs.declared.PlineVertex.{PlineVertex}
-use Rattle.refusals.specs.declared.Place.TheVariants.{Nowhere, At}
 use Rattle.source.specs.Source.{around}
 use Rattle.refusals.specs.Limits.{repeats, neighbour_tests, repeat_tests, first_of}
 use Rattle.refusals.specs.Rows.{Repeats, Joined, next, closing, RepeatedRow}
@@ -67,7 +67,7 @@ module _ (vs : List PlineVertex) (closed : Bool) where
       record { a = p.0; b = p.1.0; joined = p.1.1; repeated = (repeats↔ p.0 p.1.0).0 (sym (joined_test vs closed p.1.1) ∙ t) }
 
   -- ---- the row: a pair that repeats there, and none before
-  pub repeated-row : (k : ℕ) → (first_of (repeat_tests closed vs) ≡ At k) ↔ RepeatedRow vs closed k
+  pub repeated-row : (k : ℕ) → (first_of (repeat_tests closed vs) ≡ Some k) ↔ RepeatedRow vs closed k
   repeated-row k =
       Iff.trans (first-row (repeat_tests closed vs) RepeatsAt (λ (j : ℕ). (test→repeated j, repeated→test j)) k) (
         λ (r : RepeatsAt k × ((j : ℕ) → j < k → RepeatsAt j → ⊥)). record {
@@ -81,5 +81,5 @@ module _ (vs : List PlineVertex) (closed : Bool) where
             (record { a = r.a; b = r.b; joined = r.joined; repeated = r.repeats }, λ (j : ℕ) (h : j < k) (q : RepeatsAt j). r.first j q.a q.b h q.joined q.repeated),
       )
 
-  pub repeated_nowhere : (first_of (repeat_tests closed vs) ≡ Nowhere) ↔ ((k : ℕ) → RepeatedRow vs closed k → ⊥)
+  pub repeated_nowhere : (first_of (repeat_tests closed vs) ≡ None) ↔ ((k : ℕ) → RepeatedRow vs closed k → ⊥)
   repeated_nowhere = nowhere_row (first_of (repeat_tests closed vs)) (RepeatedRow vs closed) repeated-row

@@ -4,12 +4,11 @@ use mathlib.Core.List.{List, [], ◌∷◌, map}
 use mathlib.Core.Bool.{Bool, true, false}
 use Prim.Native.Nat.{ℕ}
 use lib.Ieee.{Float, binary64, of_bits, neg, le, eq}
+use Rattle.std.specs.Prelude.{Option, None, Some}
 use Rattle.floats.specs.Choice.{when◌give◌else◌, ◌and◌}
 use Rattle.segments.specs.declared.PlineVertex.{PlineVertex}
 use Rattle.segments.specs.declared.Settings.{Settings}
 use Rattle.segments.specs.Modes.{round_by, pointed_by}
-use Rattle.refusals.specs.declared.Place.{Place}
-use Rattle.refusals.specs.declared.Place.TheVariants.{Nowhere, At}
 use Rattle.source.specs.Source.{vertices_of, segments_of, around}
 use Rattle.refusals.specs.Limits.{inside, good_vertex, good_offset, good_eps, number_tests, repeats, neighbour_tests, repeat_tests, first_from, first_of}
 
@@ -100,17 +99,17 @@ abbrev pub ε : ℕ
 abbrev pub source : List ℕ → List PlineVertex
 source ns = vertices_of (map number ns)
 
-abbrev pub bad_by : List ℕ → Settings → Place
+abbrev pub bad_by : List ℕ → Settings → Option ℕ
 bad_by ns σ = first_of (number_tests (source ns) σ)
 
-abbrev pub bad_number : List ℕ → ℕ → ℕ → Place
+abbrev pub bad_number : List ℕ → ℕ → ℕ → Option ℕ
 bad_number ns offset e = bad_by ns (round_by (number offset) (number e))
 
 -- the same with pointed corners
-abbrev pub bad_pointed : List ℕ → ℕ → ℕ → ℕ → Place
+abbrev pub bad_pointed : List ℕ → ℕ → ℕ → ℕ → Option ℕ
 bad_pointed ns offset e ratio = bad_by ns (pointed_by (number offset) (number e) (number ratio))
 
-abbrev pub repeated : Bool → List ℕ → Place
+abbrev pub repeated : Bool → List ℕ → Option ℕ
 repeated closed ns = first_of (repeat_tests closed (source ns))
 
 abbrev pub line : List ℕ
@@ -121,7 +120,7 @@ bent = nought ∷ nought ∷ nought ∷ one ∷ far ∷ nought ∷ two ∷ nough
 
 -- nothing bad; the second vertex though the third, the offset and ε are bad too; the offset though ε is bad too; ε; no vertex and a NaN for the offset
 pub number_samples :
-    bad_number line one ε ∷ bad_number bent nan nan ∷ bad_number line nan nan ∷ bad_number line one nan ∷ bad_number [] nan ε ∷ [] ≡ Nowhere ∷ At 1 ∷ At 2 ∷ At 3 ∷ At 0 ∷ []
+    bad_number line one ε ∷ bad_number bent nan nan ∷ bad_number line nan nan ∷ bad_number line one nan ∷ bad_number [] nan ε ∷ [] ≡ None ∷ Some 1 ∷ Some 2 ∷ Some 3 ∷ Some 0 ∷ []
 unfolding opened
 number_samples = refl
 
@@ -132,12 +131,12 @@ around_ratio =
     0x7ff8_0000_0000_0000 ∷ 0x7ff0_0000_0000_0000 ∷ 0xfff0_0000_0000_0000 ∷ 0xbff0_0000_0000_0000 ∷ 0 ∷ []
 
 -- a bad ratio is told at v + 2
-pub ratio_samples : map (bad_pointed line one ε) around_ratio ≡ Nowhere ∷ At 4 ∷ Nowhere ∷ At 4 ∷ At 4 ∷ At 4 ∷ At 4 ∷ At 4 ∷ At 4 ∷ []
+pub ratio_samples : map (bad_pointed line one ε) around_ratio ≡ None ∷ Some 4 ∷ None ∷ Some 4 ∷ Some 4 ∷ Some 4 ∷ Some 4 ∷ Some 4 ∷ Some 4 ∷ []
 unfolding opened
 ratio_samples = refl
 
 -- no vertex and a NaN for the ratio; where the ratio is bad: ε is told before it, the offset before both, a vertex before all three
-pub pointed_samples : bad_pointed [] one ε nan ∷ bad_pointed line one nan nan ∷ bad_pointed line nan nan nan ∷ bad_pointed bent nan nan nan ∷ [] ≡ At 2 ∷ At 3 ∷ At 2 ∷ At 1 ∷ []
+pub pointed_samples : bad_pointed [] one ε nan ∷ bad_pointed line one nan nan ∷ bad_pointed line nan nan nan ∷ bad_pointed bent nan nan nan ∷ [] ≡ Some 2 ∷ Some 3 ∷ Some 2 ∷ Some 1 ∷ []
 unfolding opened
 pointed_samples = refl
 
@@ -165,6 +164,6 @@ signed = nought ∷ minus_nought ∷ nought ∷ minus_nought ∷ nought ∷ one 
 pub repeated_samples :
     repeated false doubled ∷ repeated true doubled ∷ repeated false shut ∷ repeated true shut ∷ repeated false level ∷ repeated true level ∷
     repeated false signed ∷ repeated true [] ∷ repeated false (one ∷ one ∷ one ∷ []) ∷ []
-    ≡ At 1 ∷ At 1 ∷ Nowhere ∷ At 2 ∷ Nowhere ∷ Nowhere ∷ At 0 ∷ Nowhere ∷ Nowhere ∷ []
+    ≡ Some 1 ∷ Some 1 ∷ None ∷ Some 2 ∷ None ∷ None ∷ Some 0 ∷ None ∷ None ∷ []
 unfolding opened
 repeated_samples = refl

@@ -1,5 +1,5 @@
 -- What makes a source's numbers bad, and which of its vertices repeat (01 §1, Nos. 3 and 5, as 02's 2026-02 and 2026-13 have them). Definitions only.
-use Rattle.std.specs.Prelude.{ℕ, suc, List, [], ◌∷◌, ◌++◌, map, Bool, true, false, not, Float}
+use Rattle.std.specs.Prelude.{Option, None, Some, ℕ, suc, List, [], ◌∷◌, ◌++◌, map, Bool, true, false, not, Float}
 use Rattle.std.specs.Float.{binary64}
 use Rattle.std.specs.Float.Ieee.{neg, le, eq, of_bits}
 use Rattle.floats.specs.Choice.{◌and◌}
@@ -7,8 +7,6 @@ use Rattle.segments.specs.declared.Corners.{Corners}
 use Rattle.segments.specs.declared.Corners.TheVariants.{Round, Pointed}
 use Rattle.segments.specs.declared.PlineVertex.{PlineVertex}
 use Rattle.segments.specs.declared.Settings.{Settings}
-use Rattle.refusals.specs.declared.Place.{Place}
-use Rattle.refusals.specs.declared.Place.TheVariants.{Nowhere, At}
 use Rattle.source.specs.Source.{around}
 
 -- 1,000,000: for x, y and the offset, on either side
@@ -70,9 +68,9 @@ unfoldable pub repeat_tests : Bool → List PlineVertex → List Bool
 repeat_tests closed vs = neighbour_tests (around closed vs)
 
 -- the place of the first test that holds, the first test having the place k
-unfoldable pub first_from : ℕ → List Bool → Place
-first_from k [] = Nowhere
-first_from k (b ∷ bs) = elim b [ true ↦ At k | false ↦ first_from (suc k) bs ]
+unfoldable pub first_from : ℕ → List Bool → Option ℕ
+first_from k [] = None
+first_from k (b ∷ bs) = elim b [ true ↦ Some k | false ↦ first_from (suc k) bs ]
 
-abbrev pub first_of : List Bool → Place
+abbrev pub first_of : List Bool → Option ℕ
 first_of bs = first_from 0 bs

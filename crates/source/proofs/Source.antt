@@ -1,21 +1,21 @@
 -- Lent numbers and their vertices: how many there are, and which one stands at a place. Assumes nothing.
-use mathlib.Core.Path.{◌≡◌, refl, sym, ap, ◌∙◌}
+use mathlib.Core.Path.{◌≡◌, refl, sym, ◌∙◌}
 use mathlib.Core.Logic.{◌↔◌}
 use mathlib.Core.List.{List, [], ◌∷◌}
 use mathlib.Core.Bool.{Bool, true, false}
-use Prim.Native.Nat.{ℕ, zero, suc, ◌+◌, ◌*◌, ◌≤◌, ◌<◌, ◌/◌}
+use Prim.Native.Nat.{ℕ, zero, suc, ◌+◌, ◌*◌, ◌≤◌, ◌<◌, ◌/◌, min}
+use native.Mathlib.Nat.{min-le_left, min-le_right, min-zero, zero-min}
 use native.Mathlib.Numerals.{add-one}
 use native.Mathlib.Omega.{arith}
-use borrow.Author.Tests.{ltb-true, ltb-false, lt-ltb, le-ltb, eqb-true, eq-eqb}
-use lib.Dec.{ltb, eqb}
+use borrow.Author.Tests.{eqb-true, eq-eqb}
+use lib.Dec.{eqb}
 use lib.ListN.{length, drop, get_or}
 use lib.Seq.{drop-cons}
 use lib.Ieee.{Float, nan}
-use Rattle.floats.specs.Choice.{when◌give◌else◌}
 use Rattle.floats.proofs.Choice.{both_pass}
 use Rattle.segments.specs.declared.PlineVertex.{PlineVertex}
-use Rattle.source.specs.Source.{vertices_of, columns_of, Lent, rows, columns, vertices_in, Whole, is_whole}
-use Rattle.source.specs.InnerSteps.{lent_by, least_of, count_by, whole_by, vertex_of}
+use Rattle.source.specs.Source.{vertices_of, columns_of, Lent, rows, columns, Whole, is_whole}
+use Rattle.source.specs.InnerSteps.{vertex_of}
 
 -- ---- how many there are
 
@@ -27,63 +27,23 @@ length-vertices (x ∷ []) = refl
 length-vertices (x ∷ y ∷ []) = refl
 length-vertices (x ∷ y ∷ b ∷ s) = rw (length-vertices s) (omega arith)
 
--- the lesser of two
-pub least_left : (a b : ℕ) → least_of a b ≤ a
-unfolding least_of when◌give◌else◌
-least_left a b = by (ltb a b) refl
-  where
-    by : (t : Bool) → ltb a b ≡ t → (when t give a else b) ≤ a
-    by true e = omega arith
-    by false e = omega (arith, ltb-false a b e)
-
-pub least_right : (a b : ℕ) → least_of a b ≤ b
-unfolding least_of when◌give◌else◌
-least_right a b = by (ltb a b) refl
-  where
-    by : (t : Bool) → ltb a b ≡ t → (when t give a else b) ≤ b
-    by true e = omega (arith, ltb-true a b e)
-    by false e = omega arith
-
--- of three
-pub least-three : (a b c : ℕ) → (least_of a (least_of b c) ≤ a) × (least_of a (least_of b c) ≤ b) × (least_of a (least_of b c) ≤ c)
-least-three a b c =
-    let p = least_left a (least_of b c) in
-    let q = least_right a (least_of b c) in
-    let r = least_left b c in
-    let s = least_right b c in
-    (omega arith, omega arith, omega arith)
-
-least-suc : (a b : ℕ) → least_of (suc a) (suc b) ≡ suc (least_of a b)
-unfolding least_of when◌give◌else◌
-least-suc a b = by (ltb a b) refl
-  where
-    by : (t : Bool) → ltb a b ≡ t → (when ltb (suc a) (suc b) give suc a else suc b) ≡ suc (when t give a else b)
-    by true e = rw (lt-ltb (suc a) (suc b) (omega (arith, ltb-true a b e)))
-    by false e = rw (le-ltb (suc a) (suc b) (omega (arith, ltb-false a b e)))
-
-least-none : (a : ℕ) → least_of a 0 ≡ 0
-least-none a = omega (arith, least_right a 0)
-
 -- the shortest column says how many
-pub length-columns : (xs ys bs : List Float) → length (columns_of xs ys bs) ≡ least_of (length xs) (least_of (length ys) (length bs))
+pub length-columns : (xs ys bs : List Float) → length (columns_of xs ys bs) ≡ min (min (length xs) (length ys)) (length bs)
 unfolding columns_of
-length-columns [] ys bs = omega (arith, least_left 0 (least_of (length ys) (length bs)))
-length-columns (x ∷ xs) [] bs = omega (arith, least_left 0 (length bs), least_right (suc (length xs)) (least_of 0 (length bs)))
-length-columns (x ∷ xs) (y ∷ ys) [] = omega (arith, least_right (suc (length ys)) 0, least_right (suc (length xs)) (least_of (suc (length ys)) 0))
-length-columns (x ∷ xs) (y ∷ ys) (b ∷ bs) = rw (least-suc, least-suc) (ap suc (length-columns xs ys bs))
+length-columns [] ys bs = rw (zero-min (length ys)) (sym (zero-min (length bs)))
+length-columns (x ∷ xs) [] bs = rw (min-zero (length (x ∷ xs))) (sym (zero-min (length bs)))
+length-columns (x ∷ xs) (y ∷ ys) [] = sym (min-zero (min (length (x ∷ xs)) (length (y ∷ ys))))
+length-columns (x ∷ xs) (y ∷ ys) (b ∷ bs) = omega (arith, length-columns xs ys bs)
 
-pub count-is : (c : Bool) (xs ys bs : List Float) → length (vertices_in (lent_by c xs ys bs)) ≡ count_by c (length xs) (length ys) (length bs)
-count-is true xs ys bs = length-columns xs ys bs
-count-is false xs ys bs = length-vertices xs
-
--- no more than the first list has numbers
-pub count_most : (c : Bool) (xs ys bs : List Float) → length (vertices_in (lent_by c xs ys bs)) ≤ length xs
-count_most true xs ys bs = rw (length-columns xs ys bs) (least_left _ _)
-count_most false xs ys bs = omega (arith, length-vertices xs)
-
-pub whole_is : (c : Bool) (xs ys bs : List Float) → is_whole (lent_by c xs ys bs) ≡ whole_by c (length xs) (length ys) (length bs)
-whole_is true xs ys bs = refl
-whole_is false xs ys bs = refl
+-- there are no more than places in each
+pub columns_most : (xs ys bs : List Float) → (length (columns_of xs ys bs) ≤ length xs) × (length (columns_of xs ys bs) ≤ length ys) × (length (columns_of xs ys bs) ≤ length bs)
+columns_most xs ys bs =
+    let n = length-columns xs ys bs in
+    let l = min-le_left (min (length xs) (length ys)) (length bs) in
+    let p = min-le_left (length xs) (length ys) in
+    let q = min-le_right (length xs) (length ys) in
+    let r = min-le_right (min (length xs) (length ys)) (length bs) in
+    (omega arith, omega arith, omega arith)
 
 -- ---- which one stands at a place
 
@@ -124,9 +84,8 @@ row_within s k h = omega (arith, length-vertices s)
 
 pub column_within : (xs ys bs : List Float) (k : ℕ) → k < length (columns_of xs ys bs) → (k < length xs) × (k < length ys) × (k < length bs)
 column_within xs ys bs k h =
-    let n = length-columns xs ys bs in
-    let l = least-three (length xs) (length ys) (length bs) in
-    (omega arith, omega arith, omega arith)
+    let n = columns_most xs ys bs in
+    (omega (arith, n.0), omega (arith, n.1), omega (arith, n.2))
 
 -- ---- whether a number is left over
 pub whole-told : (l : Lent) → is_whole l ≡ true → Whole l

@@ -2,11 +2,13 @@
 // different bulges.
 #![tactic(auto)]
 
-ghost use Rattle.std.specs.Prelude.{◌≡◌, ◌≤◌, ◌<◌, length};
+ghost use Rattle.std.specs.Prelude.{◌≡◌, ◌<◌, length};
+ghost use Rattle.std.specs.Float.{binary64};
+ghost use Rattle.std.specs.Float.Ieee.{of_bits};
 ghost use Rattle.angles.specs.Angle.{sweep_of};
 ghost use Rattle.source.specs.Source.{vertices_in};
-ghost use Rattle.source.specs.InnerSteps.{lent_by};
-ghost use Rattle.sweeps.specs.InnerSteps.{Memo};
+
+use source::Vertices;
 
 // Where a bulge is kept: by its sign, its exponent and some of its digits.
 fn slot(bits: u64) -> usize
@@ -17,80 +19,83 @@ fn slot(bits: u64) -> usize
     ((leading + digits) % 16) as usize
 }
 
-// Keeps a bulge's sweep in its slot, whatever that had.
-fn keep(keys: &mut [u64; 16], sweeps: &mut [f64; 16], bulge: f64, sweep: f64)
-    requires { Memo keys.old sweeps.old × (sweep ≡ sweep_of bulge) }
-    ensures { Memo keys.new sweeps.new }
-{
-    let b = bits::bits_of(bulge);
-    let j = slot(b);
-    keys[j] = b;
-    sweeps[j] = sweep;
+// A bulge's bits, and its sweep.
+#[derive(Clone, Copy)]
+struct Kept {
+    bits: u64,
+    sweep: f64,
+    ghost swept: { sweep ≡ sweep_of (of_bits binary64 bits) },
 }
 
-// A bulge's sweep, worked out side by side with the next one's, and both kept: the next one's last, so
-// that no other takes its slot.
-fn keep_two(keys: &mut [u64; 16], sweeps: &mut [f64; 16], bulge: f64, next: f64) -> f64
-    requires { Memo keys.old sweeps.old }
-    ensures { (result ≡ sweep_of bulge) × Memo keys.new sweeps.new }
-{
-    let both = angles::two_sweeps(bulge, next);
-    keep(keys, sweeps, bulge, both.first);
-    keep(keys, sweeps, next, both.second);
-    both.first
+// Sixteen slots, each with a bulge and its sweep.
+#[derive(Clone, Copy)]
+pub struct Memo {
+    slots: [Kept; 16],
 }
 
-// The same with those of two more.
-fn keep_four(
-    keys: &mut [u64; 16],
-    sweeps: &mut [f64; 16],
-    bulge: f64,
-    next: f64,
-    third: f64,
-    fourth: f64,
-) -> f64
-    requires { Memo keys.old sweeps.old }
-    ensures { (result ≡ sweep_of bulge) × Memo keys.new sweeps.new }
-{
-    let all = angles::four_sweeps(bulge, next, third, fourth);
-    keep(keys, sweeps, bulge, all.first);
-    keep(keys, sweeps, fourth, all.fourth);
-    keep(keys, sweeps, third, all.third);
-    keep(keys, sweeps, next, all.second);
-    all.first
-}
-
-// A bulge's sweep, where vertex k comes next. If neither it nor the next one's is kept, and two vertices
-// more come before `stop`, four are worked out at once: a drawing in which no two bulges are alike takes
-// one such step for four arcs.
-pub fn sweep_of(
-    keys: &mut [u64; 16],
-    sweeps: &mut [f64; 16],
-    bulge: f64,
-    columns: bool,
-    xs: &[f64],
-    ys: &[f64],
-    bulges: &[f64],
-    k: usize,
-    stop: usize,
-) -> f64
-    requires memo { Memo keys.old sweeps.old }
-    requires k_lt_stop { (k < stop) × (stop ≤ length (vertices_in (lent_by columns xs.now ys.now bulges.now))) }
-    ensures { (result ≡ sweep_of bulge) × Memo keys.new sweeps.new }
-{
-    let b = bits::bits_of(bulge);
-    let j = slot(b);
-    if keys[j] == b {
-        return sweeps[j];
-    }
-    let next = source::vertex_in(columns, xs, ys, bulges, k).bulge;
-    if k + 2 < stop {
-        let a = bits::bits_of(next);
-        if keys[slot(a)] != a {
-            let third = source::vertex_in(columns, xs, ys, bulges, k + 1).bulge;
-            let fourth = source::vertex_in(columns, xs, ys, bulges, k + 2).bulge;
-            return keep_four(keys, sweeps, bulge, next, third, fourth);
+impl Memo {
+    // With +0 in each slot, whose sweep is +0.
+    pub fn new() -> Memo {
+        Memo {
+            slots: [Kept {
+                bits: 0,
+                sweep: 0.0,
+            }; 16],
         }
     }
-    keep_two(keys, sweeps, bulge, next)
+
+    // Keeps a bulge's sweep in its slot, whatever that had.
+    fn keep(&mut self, bulge: f64, sweep: f64)
+        requires { sweep ≡ sweep_of bulge }
+    {
+        let bits = bits::bits_of(bulge);
+        self.slots[slot(bits)] = Kept { bits, sweep };
+    }
+
+    // A bulge's sweep, worked out side by side with the next one's, and both kept: the next one's last, so
+    // that no other takes its slot.
+    fn keep_two(&mut self, bulge: f64, next: f64) -> f64
+        ensures { result ≡ sweep_of bulge }
+    {
+        let both = angles::two_sweeps(bulge, next);
+        self.keep(bulge, both.first);
+        self.keep(next, both.second);
+        both.first
+    }
+
+    // The same with those of two more.
+    fn keep_four(&mut self, bulge: f64, next: f64, third: f64, fourth: f64) -> f64
+        ensures { result ≡ sweep_of bulge }
+    {
+        let all = angles::four_sweeps(bulge, next, third, fourth);
+        self.keep(bulge, all.first);
+        self.keep(fourth, all.fourth);
+        self.keep(third, all.third);
+        self.keep(next, all.second);
+        all.first
+    }
+
+    // A bulge's sweep, where vertex k comes next. If neither it nor the next one's is kept, and two vertices
+    // more come, four are worked out at once: a drawing in which no two bulges are alike takes one such step
+    // for four arcs.
+    pub fn sweep_of<S: Vertices>(&mut self, bulge: f64, source: S, k: usize) -> f64
+        requires { k < length (vertices_in (S.lent source)) }
+        ensures { result ≡ sweep_of bulge }
+    {
+        let bits = bits::bits_of(bulge);
+        let kept = self.slots[slot(bits)];
+        if kept.bits == bits {
+            return kept.sweep;
+        }
+        let next = source.vertex(k).bulge;
+        if source.count() - k > 2 {
+            let after = bits::bits_of(next);
+            if self.slots[slot(after)].bits != after {
+                let third = source.vertex(k + 1).bulge;
+                let fourth = source.vertex(k + 2).bulge;
+                return self.keep_four(bulge, next, third, fourth);
+            }
+        }
+        self.keep_two(bulge, next)
+    }
 }
