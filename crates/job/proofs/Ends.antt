@@ -32,7 +32,7 @@ use Rattle.sheet.proofs.Products.{product_most}
 use Rattle.sheet.specs.declared.Built.{Built}
 use Rattle.sheet.specs.Buffers.{Buffers, buffers, flat, laid_in, shown}
 use Rattle.sheet.specs.InnerSteps.{held, fitting, showing, Ready, Drawable, Finished, finished, built_of}
-use Rattle.sheet.proofs.Lent.{held-made, held-shown}
+use Rattle.sheet.proofs.Holding.{held-made, held-shown}
 use Rattle.moves.specs.Origins.{origins_in}
 use Rattle.moves.proofs.Origins.{origins-length}
 use Rattle.job.specs.declared.RawOffsetAnswer.{RawOffsetAnswer}

@@ -21,7 +21,7 @@ use Rattle.refusals.specs.Table.{number_of}
 use Rattle.moves.specs.Drawing.{Drawing, nothing}
 use Rattle.sheet.specs.Buffers.{Buffers, padded, laid_in, shown}
 use Rattle.sheet.specs.InnerSteps.{blank}
-use Rattle.sheet.proofs.Lent.{laid-rows, laid-columns}
+use Rattle.sheet.proofs.Holding.{laid-rows, laid-columns}
 use Rattle.job.specs.Verdict.{Verdict, refused, drawn, verdict_of}
 use Rattle.job.specs.Job.{Outcome, after_refusal, placed, has_room}
 use Rattle.job.specs.Rows.{Job, outcome, fit, places}

@@ -13,7 +13,7 @@ use Rattle.moves.specs.Drawing.{Drawing, nothing}
 use Rattle.moves.specs.InnerSteps.{Fits}
 use Rattle.sheet.specs.Buffers.{Buffers, padded, no_origin, laid_in, shown}
 use Rattle.sheet.specs.InnerSteps.{blank}
-use Rattle.sheet.proofs.Lent.{laid-rows, laid-columns}
+use Rattle.sheet.proofs.Holding.{laid-rows, laid-columns}
 use Rattle.job.specs.Job.{has_room}
 use Rattle.job.proofs.Ways.{all_fit}
 use Rattle.course.proofs.Reached.{same-drawing}

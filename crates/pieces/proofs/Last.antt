@@ -22,7 +22,7 @@ use Rattle.sheet.specs.Buffers.{buffers}
 use Rattle.sheet.specs.declared.Places.{Places}
 use Rattle.sheet.specs.InnerSteps.{Held, held_by, Contents, contents, fitting, making, no_places, Laid, laid, put_at, stores, Rooms, over, over_at, written}
 use Rattle.sheet.proofs.Storing.{drawn-few, room_fewer}
-use Rattle.sheet.proofs.Lent.{held-count}
+use Rattle.sheet.proofs.Holding.{held-count}
 use Rattle.sheet.proofs.Over.{over-set}
 use Rattle.course.specs.declared.Course.{Course}
 use Rattle.course.specs.declared.Ending.{Ending}

@@ -22,7 +22,7 @@ use Rattle.walk.specs.InnerSteps.{drawn_by}
 use Rattle.sheet.specs.declared.Places.{Places}
 use Rattle.sheet.specs.Buffers.{buffers, padded}
 use Rattle.sheet.specs.InnerSteps.{Held, held_by, Contents, contents, held, fitting, making, blank, no_places, Laid, laid, put_at, stored, stores, Rooms, over, over_at, written}
-use Rattle.sheet.proofs.Lent.{lent-shown}
+use Rattle.sheet.proofs.Holding.{lent-shown}
 use Rattle.sheet.proofs.Stored.{stores-append}
 use Rattle.sheet.proofs.Storing.{stores-last, stores-room, room_fewer}
 use Rattle.course.specs.declared.Turning.{Turning}

@@ -24,7 +24,7 @@ use Rattle.walk.specs.Walk.{moves_a_segment}
 use Rattle.walk.proofs.Lengths.{moves-few}
 use Rattle.sheet.specs.Buffers.{Buffers, buffers}
 use Rattle.sheet.specs.InnerSteps.{no_places, laid, Rooms}
-use Rattle.sheet.proofs.Lent.{held-count}
+use Rattle.sheet.proofs.Holding.{held-count}
 use Rattle.sheet.proofs.Products.{product_most}
 use Rattle.job.specs.Job.{has_room}
 use Rattle.job.specs.InnerSteps.{moves_if}

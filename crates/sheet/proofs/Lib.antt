@@ -1,6 +1,6 @@
 pub mod Products
 pub mod Flat
-pub mod Lent
+pub mod Holding
 pub mod Over
 pub mod Writing
 pub mod Origins

@@ -4,7 +4,7 @@ use mathlib.Core.List.{List, [], ◌∷◌}
 use mathlib.Core.Bool.{Bool, true, false, false≢true}
 use Prim.Native.Nat.{ℕ, zero, suc, ◌+◌, ◌*◌, ◌-◌, ◌<◌, ◌≤◌}
 use native.Mathlib.Omega.{arith}
-use lib.ListN.{length, replicate, length-append}
+use lib.ListN.{length, length-append}
 use lib.Ieee.{Float}
 use Rattle.floats.specs.Binary64 as B
 use Rattle.floats.specs.Choice.{when◌give◌else◌}
@@ -18,10 +18,9 @@ use Rattle.segments.specs.InnerSteps.{chord_of}
 use Rattle.joins.specs.Corner.{is_pointed}
 use Rattle.joins.proofs.Corner.{ruled-tip-mode}
 use Rattle.source.specs.InnerSteps.{vertex_of, next_of}
-use Rattle.sweeps.specs.InnerSteps.{Memo}
-use Rattle.sweeps.proofs.Slots.{kept-none}
 use Rattle.moves.specs.declared.Pen.{Pen}
 use Rattle.moves.specs.declared.Move.{Move}
+use Rattle.moves.specs.declared.Stroke.{Stroke}
 use Rattle.moves.specs.Made.{segment_of, span_move}
 use Rattle.moves.specs.InnerSteps.{pen_after, step_of, tip_first}
 use Rattle.walk.specs.declared.Walk.{Walk}
@@ -33,8 +32,9 @@ use Rattle.walk.proofs.Lengths.{moves-few, two-moves, connectors-few}
 use Rattle.sheet.specs.declared.Places.{Places}
 use Rattle.sheet.specs.declared.Later.{Later}
 use Rattle.sheet.specs.declared.Sheet.{Sheet}
-use Rattle.sheet.specs.InnerSteps.{Contents, contents, fitting, Held, no_places, Reached, reached, Laid, laid, stores, bulged_at, reached_later, bulged, later_of, Trail, trail, trail_later, advanced, advances, routed, Coded, Rooms, Alike, Turns, Ready, Drawable, Entered}
-use Rattle.sheet.proofs.Stored.{Counted, stores-counted}
+use Rattle.sheet.specs.InnerSteps.{Contents, contents, fitting, Held, no_places, reached, Laid, laid, stores, bulged_at, reached_later, bulged, later_of, Trail, trail, trail_later, advanced, advances, routed, Coded, Rooms, Alike, Turns, Ready, Drawable, Entered}
+use Rattle.sheet.proofs.Stored.{Counted, stores-counted, alike_trans, alike_same, stores_alike}
+use Rattle.sheet.proofs.Holding.{length-bulging}
 use Rattle.sheet.proofs.Products.{product_one, product_less, product_most, product_turns}
 use Rattle.sheet.proofs.Storing.{strokes-few, numbers-few}
 use Rattle.sheet.proofs.Bulges.{later, later-placed}
@@ -94,6 +94,30 @@ advances_gone closed σ (c ∷ vs) r =
       strokes = omega (arith, strokes, k.strokes, m.few, p);
       marks = omega (arith, marks, k.marks, m.few, p);
     }
+
+-- ---- buffers keep their lengths
+
+pub laid_alike : (p q : Places) (ss : List Stroke) {b b' : Contents} → laid q b' ≡ stores ss (laid p b) → Alike b b'
+laid_alike p q ss {b} e = subst (Alike b) (ap (λ (l : Laid). l.buffers) (sym e)) (stores_alike ss (laid p b))
+
+bulged_alike : (r : Later) (l : Laid) → Alike l.buffers (bulged r l).buffers
+unfolding bulged
+bulged_alike r l = record { vertices = by r.due; flags = refl; indexes = refl; origins = refl }
+  where
+    by : (t : Bool) → length (bulged_at t r.place (bulge_of r.sweep) l.buffers.vertices).made ≡ length l.buffers.vertices.made
+    by true = unfold bulged_at when◌give◌else◌ in length-bulging r.place (bulge_of r.sweep) l.buffers.vertices.made
+    by false = unfold bulged_at when◌give◌else◌ in refl
+
+later_alike : (r : Later) (p q : Places) {b b' : Contents} → laid q b' ≡ bulged r (laid p b) → Alike b b'
+later_alike r p q {b} e = subst (Alike b) (ap (λ (l : Laid). l.buffers) (sym e)) (bulged_alike r (laid p b))
+
+advances_alike : (closed : Bool) (σ : Settings) (vs : List PlineVertex) (r : Trail) → Alike r.laid.buffers (advances closed σ vs r).laid.buffers
+unfolding advances advanced
+advances_alike closed σ [] r = alike_same
+advances_alike closed σ (c ∷ vs) r = alike_trans (stores_alike _ r.laid) (advances_alike closed σ vs (advanced closed σ c r))
+
+pub trail_alike : (closed : Bool) (σ : Settings) (vs : List PlineVertex) (h h' : Sheet) {b b' : Contents} → trail h' b' ≡ advances closed σ vs (trail h b) → Alike b b'
+trail_alike closed σ vs h h' {b} e = subst (Alike b) (ap (λ (r : Trail). r.laid.buffers) (sym e)) (advances_alike closed σ vs (trail h b))
 
 -- ---- a turn of the code
 
@@ -158,9 +182,14 @@ module _ {closed : Bool} {σ : Settings} {c : PlineVertex} {w : Walk} {p : Place
       let e = ap (λ (y : Trail). y.laid.places.marks) round-advanced in
       record { strokes = ap (λ (y : Trail). y.laid.places.strokes) round-advanced ∙ k.strokes; marks = omega arith }
 
+  -- the buffers keep their lengths
+  round_alike : Alike b b'
+  round_alike = alike_trans (later_alike r p x.here x.wrote) (laid_alike x.here p' _ x.drew)
+
   -- room for the turns after it
-  round-turns : (n : ℕ) → Fit w' → Alike b b' → Turns (moves_a_segment σ.corners) (suc n) w p b → Turns (moves_a_segment σ.corners) n w' p' b'
-  round-turns n f a h =
+  round-turns : (n : ℕ) → Fit w' → Turns (moves_a_segment σ.corners) (suc n) w p b → Turns (moves_a_segment σ.corners) n w' p' b'
+  round-turns n f h =
+      let a = round_alike in
       let m = round-moved in
       let k = round-counted in
       let q = h.rooms in
@@ -182,12 +211,9 @@ module _ {closed : Bool} {σ : Settings} {c : PlineVertex} {w : Walk} {p : Place
 
 -- the code writes what is left
 pub wrote_later : (r : Later) (p q : Places) (b : Contents) {ns : Held} → ns ≡ bulged_at r.due r.place (bulge_of r.sweep) b.vertices
-    → reached q ≡ reached_later r (reached p) → laid q (contents ns b.flags b.indexes b.origins) ≡ bulged r (laid p b)
+    → reached q ≡ reached_later r (reached p) → laid q (contents ns b.flags b.indexes b.origins b.loans) ≡ bulged r (laid p b)
 unfolding bulged
 wrote_later r p q b h k = rw (h, k)
-
-alike_trans : {a b c : Contents} → Alike a b → Alike b c → Alike a c
-alike_trans p q = record { vertices = q.vertices ∙ p.vertices; flags = q.flags ∙ p.flags; indexes = q.indexes ∙ p.indexes; origins = q.origins ∙ p.origins }
 
 -- with nothing left to be written
 later-none : (w : Walk) (p : Places) (r : Later) (b : Contents) → r.due ≡ false → trail_later w p r b ≡ trail (record { walk = w; places = p }) b
@@ -200,9 +226,8 @@ unfolding advances routed
 left_more closed σ s v n k r = refl
 
 -- Of n turns over a source s of v vertices, from the buffers b₀ on to the trail `end`, i are done, and the next is to place k. What the turns still to come leave is that end.
--- The chord to the next vertex is worked out, and the sweeps in the memo are those of their bulges.
-pub record Walking (closed : Bool) (σ : Settings) (s : List PlineVertex) (v n : ℕ) (b₀ : Contents) (end : Trail) (i k : ℕ) (w : Walk) (p : Places) (r : Later) (b : Contents) (chord : Float)
-    (keys : List ℕ) (sweeps : List Float) : Type 0 where
+-- The chord to the next vertex is worked out.
+pub record Walking (closed : Bool) (σ : Settings) (s : List PlineVertex) (v n : ℕ) (b₀ : Contents) (end : Trail) (i k : ℕ) (w : Walk) (p : Places) (r : Later) (b : Contents) (chord : Float) : Type 0 where
   pub within : i ≤ n
   pub below : k < v
   pub alike : Alike b₀ b
@@ -210,41 +235,38 @@ pub record Walking (closed : Bool) (σ : Settings) (s : List PlineVertex) (v n :
   pub room : Turns (moves_a_segment σ.corners) (n - i) w p b
   pub placed : Placed r p
   pub ahead : chord ≡ chord_of w.vertex (vertex_of s k)
-  pub memo : Memo keys sweeps
 
 module _ {closed : Bool} {σ : Settings} {s : List PlineVertex} {v n : ℕ} where
   pub walking_none : {w : Walk} {p : Places} {r : Later} {b : Contents} {k : ℕ} {chord : Float} → r.due ≡ false → k < v → Turns (moves_a_segment σ.corners) n w p b → chord ≡ chord_of w.vertex (vertex_of s k)
-      → Walking closed σ s v n b (advances closed σ (routed v n k s) (trail (record { walk = w; places = p }) b)) 0 k w p r b chord (replicate 16 0) (replicate 16 B.zero)
+      → Walking closed σ s v n b (advances closed σ (routed v n k s) (trail (record { walk = w; places = p }) b)) 0 k w p r b chord
   walking_none {w} {p} {r} {b} {k} none h t e = let z : n - 0 ≡ n = omega arith in record {
     within = omega arith;
     below = h;
-    alike = record { vertices = refl; flags = refl; indexes = refl; origins = refl };
+    alike = alike_same;
     left = rw (z, later-none w p r b none);
     room = rw z t;
     placed = λ (d : r.due ≡ true). absurd (false≢true (sym none ∙ d));
     ahead = e;
-    memo = kept-none;
   }
 
-  module _ {b₀ : Contents} {end : Trail} {i k : ℕ} {w : Walk} {p : Places} {r : Later} {b : Contents} {chord : Float} {keys : List ℕ} {sweeps : List Float}
-      (on : Walking closed σ s v n b₀ end i k w p r b chord keys sweeps) where
-    pub walking_turn : {c : PlineVertex} (t : Turned) {w' : Walk} {p' : Places} {r' : Later} {b' : Contents} {k' : ℕ} {chord' : Float} {keys' : List ℕ} {sweeps' : List Float}
-        → i < n → Round closed σ c w p r b t w' p' r' b' → c ≡ vertex_of s k → Fit w' → Alike b b'
-        → (k' ≡ next_of v k) × (k' < v) → chord' ≡ chord_of c (vertex_of s k') → Memo keys' sweeps'
-        → Walking closed σ s v n b₀ end (i + 1) k' w' p' r' b' chord' keys' sweeps'
-    walking_turn {c} t {w'} {p'} {r'} {b'} {k'} lt x hc f a hk hd m =
+  module _ {b₀ : Contents} {end : Trail} {i k : ℕ} {w : Walk} {p : Places} {r : Later} {b : Contents} {chord : Float}
+      (on : Walking closed σ s v n b₀ end i k w p r b chord) where
+    pub walking_turn : {c : PlineVertex} (t : Turned) {w' : Walk} {p' : Places} {r' : Later} {b' : Contents} {k' : ℕ} {chord' : Float}
+        → i < n → Round closed σ c w p r b t w' p' r' b' → c ≡ vertex_of s k → Fit w'
+        → (k' ≡ next_of v k) × (k' < v) → chord' ≡ chord_of c (vertex_of s k')
+        → Walking closed σ s v n b₀ end (i + 1) k' w' p' r' b' chord'
+    walking_turn {c} t {w'} {p'} {r'} {b'} {k'} lt x hc f hk hd =
         let e : n - i ≡ suc (n - (i + 1)) = omega arith in
         record {
           within = omega arith;
           below = hk.1;
-          alike = alike_trans on.alike a;
+          alike = alike_trans on.alike (round_alike x);
           left =
               rw (round-advanced x, hk.0, hc)
               (left_more closed σ s v (n - (i + 1)) k (trail_later w p r b) ∙ ap (λ j. advances closed σ (routed v j k s) (trail_later w p r b)) (sym e) ∙ on.left);
-          room = round-turns x (n - (i + 1)) f a (subst (λ j. Turns (moves_a_segment σ.corners) j w p b) e on.room);
+          room = round-turns x (n - (i + 1)) f (subst (λ j. Turns (moves_a_segment σ.corners) j w p b) e on.room);
           placed = round-placed x;
           ahead = hd ∙ ap (λ (y : PlineVertex). chord_of y (vertex_of s k')) (sym (round-moved x).vertex);
-          memo = m;
         }
 
     pub walking_done : n ≤ i → trail_later w p r b ≡ end
@@ -261,15 +283,17 @@ module _ {closed : Bool} {σ : Settings} {s : List PlineVertex} {v n : ℕ} wher
     turn-made c t h =
         rw (ap (λ (u : Turn). u.connectors) h) (connectors-few σ w.source.0 (stands w).current (offset_seg w.vertex c σ.offset) (pos_of w.vertex))
 
-    pub room-turn : (c : PlineVertex) (t : Turned) → turn_shown t ≡ turn_to (stands w) c σ → (p₁ : Places) {b₁ : Contents} → i < n → reached p₁ ≡ reached_later r (reached p) → Alike b b₁ → w.leading ≡ 0
+    pub room-turn : (c : PlineVertex) (t : Turned) → turn_shown t ≡ turn_to (stands w) c σ → (p₁ : Places) {b₁ : Contents} → i < n → laid p₁ b₁ ≡ bulged r (laid p b) → w.leading ≡ 0
         → Rooms (2 + length (tip_first t.join t.connector)) (laid p₁ b₁)
-    room-turn c t made p₁ lt h a z =
+    unfolding bulged
+    room-turn c t made p₁ lt h z =
+        let a = later_alike r p p₁ h in
         let q = on.room.rooms in
         let l = length-append (tip_first t.join t.connector) (t.connector ∷ []) in
         let k = turn-made c t made in
         let m = product_one (moves_a_segment σ.corners) (n - i - w.leading) (omega (arith, lt, z)) in
-        let strokes = ap (λ (x : Reached). x.strokes) h in
-        let marks = ap (λ (x : Reached). x.marks) h in
+        let strokes = ap (λ (x : Laid). x.places.strokes) h in
+        let marks = ap (λ (x : Laid). x.places.marks) h in
         record {
           vertices = omega (arith, q.vertices, a.vertices, m, k, l);
           flags = omega (arith, q.flags, a.flags, m, k, l);

@@ -6,7 +6,7 @@ use Prim.Native.Nat.{ℕ, suc, ◌+◌, ◌≤◌}
 use native.Mathlib.Nat.{add-zero, zero-add}
 use native.Mathlib.Numerals.{add-one}
 use native.Mathlib.Omega.{arith}
-use lib.ListN.{length, set}
+use lib.ListN.{length, set, length-set}
 use lib.Seq.{sets, sets-eq}
 use lib.Ieee.{is_nan, of_bits}
 use Rattle.floats.specs.Binary64 as B
@@ -20,7 +20,7 @@ use Rattle.moves.specs.Drawing.{corners, flags_of, marks, mark, bit, origins_of,
 use Rattle.moves.specs.InnerSteps.{strokes, sure}
 use Rattle.moves.proofs.Laws.{bit-small}
 use Rattle.moves.proofs.Shapes.{path, path_fits}
-use Rattle.sheet.specs.InnerSteps.{Contents, fitting, making, no_places, Reached, Laid, laid, stored, stores, over, written}
+use Rattle.sheet.specs.InnerSteps.{Contents, fitting, making, no_places, Reached, Laid, laid, stored, stores, Alike, over, written}
 
 pub stores-append : (ss ts : List Stroke) (l : Laid) → stores (ss ++ ts) l ≡ stores ts (stores ss l)
 unfolding stores
@@ -40,6 +40,33 @@ stores-counted (s ∷ ss) l =
     let b = bit-small (is_invalid s.reason) in
     record { strokes = omega arith; marks = omega arith }
 
+-- ---- buffers keep their lengths
+
+pub alike_trans : {a b c : Contents} → Alike a b → Alike b c → Alike a c
+alike_trans p q = record { vertices = q.vertices ∙ p.vertices; flags = q.flags ∙ p.flags; indexes = q.indexes ∙ p.indexes; origins = q.origins ∙ p.origins }
+
+pub alike_same : {b : Contents} → Alike b b
+alike_same = record { vertices = refl; flags = refl; indexes = refl; origins = refl }
+
+length_marked : (t : Bool) (is : List ℕ) (j n : ℕ) → length (when t give set is j n else is) ≡ length is
+unfolding when◌give◌else◌
+length_marked true is j n = length-set is j n
+length_marked false is j n = refl
+
+pub stored_alike : (s : Stroke) (l : Laid) → Alike l.buffers (stored s l).buffers
+unfolding stored
+stored_alike s l = record {
+  vertices = length-set _ _ _;
+  flags = length-set _ _ _;
+  indexes = length_marked (is_invalid s.reason) l.buffers.indexes l.places.marks s.number.0;
+  origins = length-set _ _ _;
+}
+
+pub stores_alike : (ss : List Stroke) (l : Laid) → Alike l.buffers (stores ss l).buffers
+unfolding stores
+stores_alike [] l = alike_same
+stores_alike (s ∷ ss) l = alike_trans (stored_alike s l) (stores_alike ss (stored s l))
+
 -- ---- the strokes of kept moves, from any places on
 
 abbrev row : ℕ → Vector2 → List Move → Laid → Laid
@@ -54,6 +81,7 @@ row n p ks l = record {
     flags = sets l.buffers.flags l.places.strokes (flags_of ks);
     indexes = sets l.buffers.indexes l.places.marks (marks n ks);
     origins = sets l.buffers.origins l.places.strokes (origins_of ks);
+    loans = l.buffers.loans;
   };
 }
 

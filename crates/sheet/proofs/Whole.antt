@@ -38,7 +38,7 @@ use Rattle.walk.proofs.Unmet.{never_one}
 use Rattle.walk.proofs.Lengths.{moves-few, two-moves, three-moves, open_most, closed-most}
 use Rattle.sheet.specs.declared.Places.{Places}
 use Rattle.sheet.specs.declared.Sheet.{Sheet}
-use Rattle.sheet.specs.declared.Built.TheVariants.{Done}
+use Rattle.std.specs.Prelude.{Some}
 use Rattle.sheet.specs.Buffers.{no_origin}
 use Rattle.sheet.specs.InnerSteps.{Contents, fitting, blank, making, Held, showing, no_places, Reached, Laid, laid, put_at, stores, Trail, trail, advanced, advances, routed, written}
 use Rattle.sheet.specs.InnerSteps.{Rooms, Alike, Ready, Drawable, over, over_at, cleared, wiped, Within, Lasts, closing_moves, finished, finishes, finishes_open, lasts, closes, Entered, built_of}
@@ -48,7 +48,7 @@ use Rattle.sheet.proofs.Products.{product_less, product_most}
 use Rattle.sheet.proofs.Storing.{strokes-few}
 use Rattle.sheet.proofs.Bulges.{swap}
 use Rattle.sheet.proofs.Routes.{length-routed, first_two, others, last-is, open_route, lead_route, around_route}
-use Rattle.sheet.proofs.Loop.{advances_gone}
+use Rattle.sheet.proofs.Loop.{advances_gone, laid_alike, trail_alike}
 
 -- ---- the lists of a drawing, with zeros after them or in their place
 module _ (room : ℕ) (d : Drawing) (old : Contents) (w : Fits room d) where
@@ -79,7 +79,7 @@ module _ (room : ℕ) (d : Drawing) (old : Contents) (w : Fits room d) where
   unfolding finishes built_of
   finish-built = rw (written_after, written-whole)
 
-built-nothing : (room : ℕ) (old : Contents) → finished (Done empty_result) (wiped room 0 0 0 old) ≡ built_of room nothing old
+built-nothing : (room : ℕ) (old : Contents) → finished (Some empty_result) (wiped room 0 0 0 old) ≡ built_of room nothing old
 unfolding built_of all_finite when◌give◌else◌
 built-nothing room old = rw (written-whole room nothing old (nothing-fits room))
 
@@ -158,11 +158,12 @@ abbrev walked : Bool → Settings → List PlineVertex → PlineVertex → ℕ �
 walked closed σ vs a n old = advances closed σ vs (record { stood = standing_at a n; laid = laid no_places old })
 
 -- ---- after turns from the first places on there is room for the last t moves
-pub lasts_after : (closed : Bool) (σ : Settings) (s : List PlineVertex) (v n k t room : ℕ) (h h' : Sheet) {b b' : Contents} → Ready v room s b → Alike b b'
+pub lasts_after : (closed : Bool) (σ : Settings) (s : List PlineVertex) (v n k t room : ℕ) (h h' : Sheet) {b b' : Contents} → Ready v room s b
     → (h.places.strokes ≡ 0) × (h.places.marks ≡ 0) × (h.walk.pen.number.0 ≡ 0) × (h.walk.source.0 ≡ 0)
     → moves_a_segment σ.corners * (n - h.walk.leading) + t ≤ room → (n ≤ 4096) × (t ≤ 3) → room ≤ 12288
     → trail h' b' ≡ advances closed σ (routed v n k s) (trail h b) → Lasts t room h' b'
-lasts_after closed σ s v n k t room h h' {b} ready alike none few most small e =
+lasts_after closed σ s v n k t room h h' {b} ready none few most small e =
+    let alike = trail_alike closed σ (routed v n k s) h h' e in
     let l = length-routed v n k s in
     let g = rw (l, ← e) at (advances_gone closed σ (routed v n k s) (trail h b)) in
     let m = product_most (moves_a_segment σ.corners) 3 n (moves-few σ.corners) in
@@ -179,14 +180,14 @@ lasts_after closed σ s v n k t room h h' {b} ready alike none few most small e 
     }
 
 -- of an open walk
-pub first-lasts : (σ : Settings) (s : List PlineVertex) (v k room : ℕ) (pointed : Bool) (a : PlineVertex) (h h' : Sheet) {b b' : Contents} → Drawable v (v - 1) room σ pointed s b → Alike b b'
+pub first-lasts : (σ : Settings) (s : List PlineVertex) (v k room : ℕ) (pointed : Bool) (a : PlineVertex) (h h' : Sheet) {b b' : Contents} → Drawable v (v - 1) room σ pointed s b
     → (stood h.walk ≡ standing_at a 1) × Fit h.walk × (h.places ≡ no_places) → trail h' b' ≡ advances false σ (routed v (v - 1) k s) (trail h b) → Lasts 2 room h' b'
 unfolding standing_at
-first-lasts σ s v k room pointed a h h' d alike first e =
+first-lasts σ s v k room pointed a h h' d first e =
     let leading : h.walk.leading ≡ 1 = ap (λ (x : Stood). x.leading) first.0 in
     let m = product_less (moves_a_segment σ.corners) (v - 1) (omega (arith, d.ready.two)) in
     let few : moves_a_segment σ.corners * (v - 1 - h.walk.leading) + 2 ≤ room = rw leading (omega (arith, m, d.enough, two-moves σ.corners)) in
-    lasts_after false σ s v (v - 1) k 2 room h h' d.ready alike (
+    lasts_after false σ s v (v - 1) k 2 room h h' d.ready (
       ap (λ (x : Places). x.strokes) first.2,
       ap (λ (x : Places). x.marks) first.2,
       ap (λ (x : Stood). x.pen.number.0) first.0,
@@ -201,14 +202,14 @@ closing-few σ i j tipped =
     either_tip i j (λ (ms : List Move). 1 + length (ms ++ connector_move i j ∷ []) ≤ moves_a_segment σ.corners) (λ e. omega (arith, two-moves σ.corners))
     (λ e. omega (arith, three-moves σ.corners (tipped e)))
 
-pub around-lasts : (σ : Settings) (s : List PlineVertex) (v k room : ℕ) (pointed : Bool) (h h' : Sheet) {b b' : Contents} → Drawable v v room σ pointed s b → Alike b b' → Entered σ h
+pub around-lasts : (σ : Settings) (s : List PlineVertex) (v k room : ℕ) (pointed : Bool) (h h' : Sheet) {b b' : Contents} → Drawable v v room σ pointed s b → Entered σ h
     → trail h' b' ≡ advances true σ (routed v (v - 1) k s) (trail h b) → Lasts (length (closing_moves h'.walk h.walk.entry)) room h' b'
-around-lasts σ s v k room pointed h h' d alike en e =
+around-lasts σ s v k room pointed h h' d en e =
     let m = product_less (moves_a_segment σ.corners) v (omega (arith, d.ready.two)) in
     let c = closing-few σ h'.walk.source.0 h.walk.entry en.tipped in
     let z : v - 1 - 0 ≡ v - 1 = omega arith in
     let few : moves_a_segment σ.corners * (v - 1 - h.walk.leading) + length (closing_moves h'.walk h.walk.entry) ≤ room = rw (en.leading, z) (omega (arith, m, d.enough, c)) in
-    lasts_after true σ s v (v - 1) k _ room h h' d.ready alike (en.strokes, en.marks, en.number, en.source) few
+    lasts_after true σ s v (v - 1) k _ room h h' d.ready (en.strokes, en.marks, en.number, en.source) few
     (omega (arith, d.ready.most), omega (arith, c, moves-few σ.corners)) d.small e
 
 pub ready_alike : {v room : ℕ} {s : List PlineVertex} {b b' : Contents} → Ready v room s b → Alike b b' → Ready v room s b'
@@ -340,9 +341,10 @@ lasts-room w = record {
 }
 
 -- there is room for them, and for k vertices in all
-pub last_within : (k t room : ℕ) (h : Sheet) (p : Places) (ss : List Stroke) {b b' : Contents} → Lasts t room h b → Alike b b' → laid p b' ≡ stores ss (laid h.places b)
+pub last_within : (k t room : ℕ) (h : Sheet) (p : Places) (ss : List Stroke) {b b' : Contents} → Lasts t room h b → laid p b' ≡ stores ss (laid h.places b)
     → length ss ≤ t → k + length ss ≤ p.strokes + t → Within room k p.strokes p.marks b'
-last_within k t room h p ss {b} w alike e n m =
+last_within k t room h p ss {b} w e n m =
+    let alike = laid_alike h.places p ss e in
     let c = stores-counted ss (laid h.places b) in
     let x = ap (λ (l : Laid). l.places.strokes) e in
     let y = ap (λ (l : Laid). l.places.marks) e in
@@ -358,12 +360,12 @@ last_within k t room h p ss {b} w alike e n m =
     }
 
 -- the closing moves as the code stores them: they leave q
-module _ (room : ℕ) (ε : Float) (h : Sheet) (k : JoinBoundary) (q : Places) {b b' : Contents} (w : Lasts (length (closing_moves h.walk k)) room h b) (alike : Alike b b')
+module _ (room : ℕ) (ε : Float) (h : Sheet) (k : JoinBoundary) (q : Places) {b b' : Contents} (w : Lasts (length (closing_moves h.walk k)) room h b)
     (all : laid q b' ≡ stores (strokes_by 0 h.walk.pen (closing_moves h.walk k) ε) (laid h.places b)) where
   pub closing-within : Within room q.strokes q.strokes q.marks b'
   closing-within =
       let few = strokes-few 0 h.walk.pen (closing_moves h.walk k) ε in
-      last_within q.strokes _ room h q (strokes_by 0 h.walk.pen (closing_moves h.walk k) ε) w alike all few (omega (arith, few))
+      last_within q.strokes _ room h q (strokes_by 0 h.walk.pen (closing_moves h.walk k) ε) w all few (omega (arith, few))
 
   pub closing-done : finishes room (record { vertices = q.strokes; indexes = q.marks; closed = not (eqb q.strokes 0) }) (laid q b') ≡ closes room k ε (trail h b)
   unfolding closes

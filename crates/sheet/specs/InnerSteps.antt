@@ -1,6 +1,6 @@
 -- What the steps of storing and of the loop do to the places and to the lent buffers, and the room that they need. No rule rests on these: `proofs/Stored.antt` and
--- `proofs/Whole.antt` tie them to `drawing_of`, and `proofs/Lent.antt` to `shown`. Definitions only.
-use Rattle.std.specs.Prelude.{◌≡◌, ℕ, zero, suc, ◌+◌, ◌*◌, ◌-◌, ◌≤◌, ◌<◌, List, [], ◌∷◌, ◌++◌, Bool, true, false, not, eqb, length, set, take, drop, replicate, Float}
+-- `proofs/Whole.antt` tie them to `drawing_of`, and `proofs/Holding.antt` to `shown`. Definitions only.
+use Rattle.std.specs.Prelude.{Option, None, Some, ◌≡◌, ℕ, zero, suc, ◌+◌, ◌*◌, ◌-◌, ◌≤◌, ◌<◌, List, [], ◌∷◌, ◌++◌, Bool, true, false, not, eqb, length, set, take, drop, replicate, Float}
 use Rattle.floats.specs.Binary64 as B
 use Rattle.floats.specs.Binary64.{◌⊘◌}
 use Rattle.floats.specs.Choice.{when◌give◌else◌, ◌and◌}
@@ -11,8 +11,8 @@ use Rattle.segments.specs.Modes.{are_pointed}
 use Rattle.segments.specs.Vertex.{vertex_at}
 use Rattle.segments.specs.Segment.{is_collapsed}
 use Rattle.angles.specs.Angle.{tan_eighth, bulge_of}
-use Rattle.source.specs.Source.{vertices_of, columns_of, vertices_in}
-use Rattle.source.specs.InnerSteps.{lent_by, vertex_of, next_of}
+use Rattle.source.specs.Source.{vertices_of, columns_of, Lent, rows, columns, vertices_in}
+use Rattle.source.specs.InnerSteps.{vertex_of, next_of}
 use Rattle.joins.specs.declared.JoinBoundary.{JoinBoundary}
 use Rattle.joins.specs.Corner.{is_pointed}
 use Rattle.moves.specs.declared.Move.{Move}
@@ -31,38 +31,59 @@ use Rattle.walk.specs.InnerSteps.{Standing, stands, Stood, stood, Fit, span_to, 
 use Rattle.sheet.specs.declared.Places.{Places}
 use Rattle.sheet.specs.declared.Later.{Later}
 use Rattle.sheet.specs.declared.Sheet.{Sheet}
-use Rattle.sheet.specs.declared.Built.{Built}
-use Rattle.sheet.specs.declared.Built.TheVariants.{Done, NotFinite}
+use Rattle.sheet.specs.declared.lent.Marks.{Marks}
 use Rattle.moves.specs.Origins.{origins_in}
 use Rattle.sheet.specs.Buffers.{padded, no_origin}
 
 -- ---- what the buffers hold
 
--- The numbers that make no vertex: in rows those left over, and the two lists that nothing is done with; in columns what stands past the shortest.
-abbrev pub beyond_by : Bool → List Float → List Float → List Float → List (List Float)
-beyond_by true xs ys bs = let n = length (columns_of xs ys bs) in drop n xs ∷ drop n ys ∷ drop n bs ∷ []
-beyond_by false xs ys bs = drop (3 * length (vertices_of xs)) xs ∷ ys ∷ bs ∷ []
+-- which references lend them: of rows there is one
+pub record Loans : Type 0 where
+  pub x : ℕ
+  pub y : ℕ
+  pub bulge : ℕ
 
--- what three lists hold, whatever the layout
+-- numbers, and by which references they are lent
+pub record Loaned : Type 0 where
+  pub numbers : Lent
+  pub loans : Loans
+
+-- The numbers that make no vertex: in rows those left over; in columns what stands past the shortest.
+abbrev pub beyond : Lent → List (List Float)
+beyond (rows ns) = drop (3 * length (vertices_of ns)) ns ∷ []
+beyond (columns xs ys bs) = let n = length (columns_of xs ys bs) in drop n xs ∷ drop n ys ∷ drop n bs ∷ []
+
+-- what they hold, whatever the layout
 pub record Held : Type 0 where
   pub made : List PlineVertex
   pub beyond : List (List Float)
+  pub loans : Loans
 
-unfoldable pub held_by : Bool → List Float → List Float → List Float → Held
-held_by c xs ys bs = record { made = vertices_in (lent_by c xs ys bs); beyond = beyond_by c xs ys bs }
+unfoldable pub held_by : Loaned → Held
+held_by l = record { made = vertices_in l.numbers; beyond = beyond l.numbers; loans = l.loans }
 
--- and what all six do
+-- which references lend the marks
+pub record MarkLoans : Type 0 where
+  pub flags : ℕ
+  pub indexes : ℕ
+  pub origins : ℕ
+
+abbrev pub loans_of : Marks → MarkLoans
+loans_of m = record { flags = m.flags.ghost_name; indexes = m.indexes.ghost_name; origins = m.origins.ghost_name }
+
+-- and what all of them hold
 pub record Contents : Type 0 where
   pub vertices : Held
   pub flags : List ℕ
   pub indexes : List ℕ
   pub origins : List Origin
+  pub loans : MarkLoans
 
-abbrev pub contents : Held → List ℕ → List ℕ → List Origin → Contents
-contents v f i o = record { vertices = v; flags = f; indexes = i; origins = o }
+abbrev pub contents : Held → List ℕ → List ℕ → List Origin → MarkLoans → Contents
+contents v f i o l = record { vertices = v; flags = f; indexes = i; origins = o; loans = l }
 
-abbrev pub held : Bool → List Float → List Float → List Float → List ℕ → List ℕ → List ℕ → Contents
-held c xs ys bs f i o = contents (held_by c xs ys bs) f i (origins_in o)
+abbrev pub held : Loaned → Marks → Contents
+held v m = contents (held_by v) m.flags.now m.indexes.now (origins_in m.origins.now) (loans_of m)
 
 -- so many vertices fit
 abbrev pub fitting : Contents → ℕ
@@ -70,7 +91,7 @@ fitting b = length b.vertices.made
 
 -- other vertices, with the same numbers beyond them
 abbrev pub making : List PlineVertex → Held → Held
-making vs h = record { made = vs; beyond = h.beyond }
+making vs h = record { made = vs; beyond = h.beyond; loans = h.loans }
 
 -- an unused vertex
 abbrev pub blank : PlineVertex
@@ -83,6 +104,7 @@ showing room d old = record {
   flags = padded 0 room d.flags old.flags;
   indexes = padded 0 room d.indexes old.indexes;
   origins = padded no_origin room d.origins old.origins;
+  loans = old.loans;
 }
 
 -- ---- strokes
@@ -125,6 +147,7 @@ stored s l = record {
     flags = set l.buffers.flags l.places.strokes (bit (is_invalid s.reason));
     indexes = when is_invalid s.reason give set l.buffers.indexes l.places.marks s.number.0 else l.buffers.indexes;
     origins = set l.buffers.origins l.places.strokes s.origin;
+    loans = l.buffers.loans;
   };
 }
 
@@ -159,7 +182,7 @@ reached_later r p = record { strokes = p.strokes; marks = p.marks; finite = when
 unfoldable pub bulged : Later → Laid → Laid
 bulged r l = record {
   places = reached_later r l.places;
-  buffers = contents (bulged_at r.due r.place (bulge_of r.sweep) l.buffers.vertices) l.buffers.flags l.buffers.indexes l.buffers.origins;
+  buffers = contents (bulged_at r.due r.place (bulge_of r.sweep) l.buffers.vertices) l.buffers.flags l.buffers.indexes l.buffers.origins l.buffers.loans;
 }
 
 -- what a turn leaves to be written: the bulge of its span, if that is an arc and is drawn, at place k
@@ -257,7 +280,7 @@ over_at vs h = making (over vs h.made) h
 
 -- the lists of a drawing, written over the buffers
 abbrev pub written : Drawing → Contents → Contents
-written d old = contents (over_at d.vertices old.vertices) (over d.flags old.flags) (over d.indexes old.indexes) (over d.origins old.origins)
+written d old = contents (over_at d.vertices old.vertices) (over d.flags old.flags) (over d.indexes old.indexes) (over d.origins old.origins) old.loans
 
 -- count places from `from` on set to z
 abbrev pub cleared {ℓ} : {A : Type ℓ} → A → ℕ → ℕ → List A → List A
@@ -273,6 +296,7 @@ wiped room v f i old = record {
   flags = cleared 0 f (room - f) old.flags;
   indexes = cleared 0 i (room - i) old.indexes;
   origins = cleared no_origin f (room - f) old.origins;
+  loans = old.loans;
 }
 
 -- there is room for `room` places, and the counts are within it
@@ -288,34 +312,34 @@ pub record Within (room v f i : ℕ) (b : Contents) : Type 0 where
 
 -- what was built, and the buffers with it
 pub record Finished : Type 0 where
-  pub built : Built
+  pub built : Option RawOffsetResult
   pub buffers : Contents
 
-abbrev pub finished : Built → Contents → Finished
+abbrev pub finished : Option RawOffsetResult → Contents → Finished
 finished r b = record { built = r; buffers = b }
 
 -- an answer whose numbers are all finite stands, with zeros after it; any other is refused, and its room set to zero
 unfoldable pub finishes : ℕ → RawOffsetResult → Laid → Finished
 finishes room r l =
-    when l.places.finite give finished (Done r) (wiped room r.vertices l.places.strokes l.places.marks l.buffers) else
-    finished NotFinite (wiped room 0 0 0 l.buffers)
+    when l.places.finite give finished (Some r) (wiped room r.vertices l.places.strokes l.places.marks l.buffers) else
+    finished None (wiped room 0 0 0 l.buffers)
 
 -- an open walk that drew nothing is empty; any other has its last point as a vertex with bulge 0
 unfoldable pub finishes_open : ℕ → Pen → Laid → Finished
 finishes_open room pen l =
     let v = vertex_at pen.last B.zero in
-    when eqb l.places.strokes 0 give finished (Done empty_result) (wiped room 0 0 0 l.buffers) else
+    when eqb l.places.strokes 0 give finished (Some empty_result) (wiped room 0 0 0 l.buffers) else
     finishes room (record { vertices = l.places.strokes + 1; indexes = l.places.marks; closed = false })
     (record {
       places = record { strokes = l.places.strokes; marks = l.places.marks; finite = finite_vertex v and l.places.finite };
-      buffers = contents (put_at l.buffers.vertices l.places.strokes v) l.buffers.flags l.buffers.indexes l.buffers.origins;
+      buffers = contents (put_at l.buffers.vertices l.places.strokes v) l.buffers.flags l.buffers.indexes l.buffers.origins l.buffers.loans;
     })
 
 -- the last span of an open walk: nothing is drawn of a collapsed arc that is alone
 unfoldable pub lasts : ℕ → Bool → Float → Trail → Finished
 lasts room alone ε r =
     let last = step_of r.stood.pen (last_span r.stood.walker) ε in
-    when alone and is_collapsed r.stood.walker.current give finished (Done empty_result) (wiped room 0 0 0 r.laid.buffers) else
+    when alone and is_collapsed r.stood.walker.current give finished (Some empty_result) (wiped room 0 0 0 r.laid.buffers) else
     finishes_open room last.pen (stores (drawn_by 0 last) r.laid)
 
 -- the closing moves of a closed walk, by its closing join: the last span up to that join, and its connectors
@@ -354,4 +378,4 @@ pub record Entered (σ : Settings) (h : Sheet) : Type 0 where
 
 -- what becomes of a drawing d (01 §1, No. 6)
 unfoldable pub built_of : ℕ → Drawing → Contents → Finished
-built_of room d old = when all_finite d.vertices give finished (Done (result_of d)) (showing room d old) else finished NotFinite (showing room nothing old)
+built_of room d old = when all_finite d.vertices give finished (Some (result_of d)) (showing room d old) else finished None (showing room nothing old)

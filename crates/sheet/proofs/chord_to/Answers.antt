@@ -4,5 +4,5 @@ use Rattle.segments.specs.InnerSteps.{chord_of}
 use Rattle.sheet.proofs.chord_to.Goals as goal
 
 pub returns : goal.returns
-returns c =
-    c.chord_length.ensures ∙ ap (chord_of _) c.vertex_in.ensures
+returns g c =
+    c.chord_length.ensures ∙ ap (chord_of _) c.vertex.ensures

@@ -1,35 +1,30 @@
 -- `sheet::clear_vertices` meets its contract. Assumes nothing.
-use mathlib.Core.Path.{refl, ap, ◌∙◌}
+use mathlib.Core.Path.{◌≡◌, refl, sym, ◌∙◌}
+use Prim.Native.Nat.{◌+◌, ◌-◌}
 use native.Mathlib.Omega.{arith}
-use Rattle.sheet.specs.InnerSteps.{Held, held_by, blank}
-use Rattle.sheet.proofs.Lent.{held-is, held-most, long_same}
-use Rattle.sheet.proofs.Writing.{writing_none, clearing_turn, clearing_done}
+use lib.ListN.{length-replicate, get_or-replicate}
+use Rattle.sheet.specs.InnerSteps.{blank}
+use Rattle.sheet.proofs.Writing.{putting_none, putting_turn, putting_done}
 use Rattle.sheet.proofs.clear_vertices.Goals as goal
 
-pub loop-j-init : goal.loop-j-init
-loop-j-init c = (writing_none, refl, long_same, refl)
+pub loop-k-init : goal.loop-k-init
+loop-k-init g c = let z : c.args.from - c.args.from ≡ 0 = omega arith in (rw z putting_none, refl)
 
-pub overflow_add-from : goal.overflow_add-from
-overflow_add-from c =
-    let a = c.args in
-    omega (arith, c.requires, held-most a.columns a.outxs.now a.outys.now a.outbulges.now, c.well_formed.1.0, c.loop-j-test.true)
+pub put-requires : goal.put-requires
+put-requires g c = omega (arith, c.loop-k.invariant.0.made.long, c.requires.1, c.loop-k-test.true)
 
-pub put_vertex-requires : goal.put_vertex-requires
-put_vertex-requires c =
-    omega (arith, c.loop-j.invariant.0.long, c.requires, c.loop-j-test.true)
-
-pub loop-j-preserved : goal.loop-j-preserved
-loop-j-preserved c =
-    let l = c.loop-j.invariant in
-    let p = c.put_vertex in (
-      rw (p.ensures, l.3) (clearing_turn blank l.0 c.loop-j-test.true c.requires),
-      ap (λ (h : Held). h.beyond) p.ensures ∙ l.1,
-      record { x = p.auto.outxs ∙ l.2.x; y = p.auto.outys ∙ l.2.y; bulge = p.auto.outbulges ∙ l.2.bulge },
-      l.3,
+pub loop-k-preserved : goal.loop-k-preserved
+loop-k-preserved g c =
+    let l = c.loop-k in
+    let n = c.args.end - c.args.from in
+    let j = l.k - c.args.from in
+    let here : c.args.from + j ≡ l.k = omega arith in
+    let next : l.k + 1 - c.args.from ≡ j + 1 = omega arith in (
+      rw next (putting_turn blank l.invariant.0 (c.put.ensures ∙ rw (here, l.invariant.1, get_or-replicate n j blank blank (omega (arith, c.loop-k-test.true)))) (omega (arith, c.loop-k-test.true)) (sym (length-replicate n blank))
+          (omega (arith, c.requires.0, c.requires.1))),
+      l.invariant.1,
     )
 
 pub returns : goal.returns
-returns c =
-    let l = c.loop-j.invariant in
-    let a = c.args in
-    held-is _ (held_by a.columns a.outxs.now a.outys.now a.outbulges.now) _ (clearing_done blank l.0 c.loop-j-test.false) l.1
+returns g c =
+    putting_done c.loop-k.invariant.0 (omega (arith, c.loop-k-test.false, c.requires.0)) (sym (length-replicate _ blank))

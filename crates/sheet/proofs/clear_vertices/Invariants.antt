@@ -1,16 +1,12 @@
 -- `sheet::clear_vertices` meets its contract. Assumes nothing.
 use mathlib.Core.Path.{◌≡◌}
 use Prim.Native.Nat.{◌-◌}
+use lib.ListN.{replicate}
 use Rattle.sheet.specs.InnerSteps.{held_by, blank}
-use Rattle.sheet.proofs.Lent.{Long}
-use Rattle.sheet.proofs.Writing.{Clearing}
+use Rattle.sheet.proofs.Writing.{Putting}
 use Rattle.sheet.proofs.clear_vertices.Given as goal
 
-abbrev pub invariant-loop-j : goal.invariant-loop-j
-invariant-loop-j l =
-    let h₀ = held_by l.columns l.initial.outxs l.initial.outys l.initial.outbulges in
-    let h = held_by l.columns l.outxs l.outys l.outbulges in
-    Clearing blank l.from l.count h₀.made l.j h.made × (h.beyond ≡ h₀.beyond) × Long l.initial.outxs l.initial.outys l.initial.outbulges l.outxs l.outys l.outbulges × (l.blank ≡ blank)
-
-abbrev pub decreases-loop-j : goal.decreases-loop-j
-decreases-loop-j l = l.count - l.j
+abbrev pub invariant-loop-k : goal.invariant-loop-k
+invariant-loop-k g l =
+    let n = l.end - l.initial.k in
+    Putting (replicate n blank) l.initial.k n (held_by (g.V.VerticesMut.lent l.initial.vertices)) (l.k - l.initial.k) (held_by (g.V.VerticesMut.lent l.vertices)) × (l.blank ≡ blank)

@@ -4,7 +4,7 @@ use Rattle.sheet.proofs.Storing.{room_fewer, row_number, row_leaves, row-stored,
 use Rattle.sheet.proofs.store_connectors.Goals as goal
 
 pub store_tip-tipped-requires : goal.store_tip-tipped-requires
-store_tip-tipped-requires c =
+store_tip-tipped-requires g c =
     let pre = c.requires in
     record {
       rooms = ((λ z. room_fewer (omega arith) (pre.rooms.0 z)), omega (arith, pre.rooms.1));
@@ -12,19 +12,19 @@ store_tip-tipped-requires c =
     }
 
 pub store_move-requires : goal.store_move-requires
-store_move-requires c =
+store_move-requires g c =
     let tipped = c.store_tip-tipped in
     let pre = c.requires in (
-      (λ z. row_leaves _ 1 _ _ _ tipped.ensures.origins_after (room_fewer (omega arith) (pre.rooms.0 z))),
-      omega (arith, row_number _ _ _ tipped.ensures.pen_value, pre.rooms.1, tip-one c.args.join c.args.connector),
+      (λ z. row_leaves _ 1 _ _ _ tipped.ensures.stored (room_fewer (omega arith) (pre.rooms.0 z))),
+      omega (arith, row_number _ _ _ tipped.ensures.stepped, pre.rooms.1, tip-one c.args.join c.args.connector),
       pre.coded.0,
     )
 
 pub returns : goal.returns
-returns c =
+returns g c =
     let tipped = c.store_tip-tipped in
     let whole = c.store_move in
     record {
-      origins_after = row-stored _ _ _ _ _ tipped.ensures.pen_value _ tipped.ensures.origins_after whole.ensures.origins_after;
-      pen_value = row-pen _ _ _ _ tipped.ensures.pen_value whole.ensures.pen_value.0;
+      stored = row-stored _ _ _ _ _ tipped.ensures.stepped _ tipped.ensures.stored whole.ensures.stored;
+      stepped = row-pen _ _ _ _ tipped.ensures.stepped whole.ensures.stepped.0;
     }

@@ -8,19 +8,19 @@ use Rattle.sheet.proofs.Storing.{step_coded, drawn-room, stores-last}
 use Rattle.sheet.proofs.store_move.Goals as goal
 
 pub step-stepped-requires : goal.step-stepped-requires
-step-stepped-requires c = c.requires.1
+step-stepped-requires g c = c.requires.1
 
-pub store-places-requires : goal.store-places-requires
-store-places-requires c =
+pub store-requires : goal.store-requires
+store-requires g c =
     let pre = c.requires in
     ((λ t. drawn-room _ _ c.both-drawn.ensures pre.0 t), step_coded _ _ _ c.step-stepped.ensures pre.2)
 
 pub returns : goal.returns
 unfolding drawn_by
-returns c =
+returns g c =
     let step = c.step-stepped.ensures in
     let drawn = c.both-drawn.ensures ∙ ap (λ (s : Stepped). eqb c.args.leading 0 and s.kept) step in
     record {
-      origins_after = c.store-places.ensures ∙ rw (drawn, step) (sym (stores-last _ _ _));
-      pen_value = (ap (λ (s : Stepped). s.pen) step, drawn);
+      stored = c.store.ensures ∙ rw (drawn, step) (sym (stores-last _ _ _));
+      stepped = (ap (λ (s : Stepped). s.pen) step, drawn);
     }

@@ -12,15 +12,15 @@ use Rattle.sheet.proofs.store_tip.Goals as goal
 
 pub returns-then-not-both : goal.returns-then-not-both
 unfolding strokes_by pen_by stores
-returns-then-not-both c =
+returns-then-not-both g c =
     let none = unpointed _ _ c.requires.coded.1 (sym (c.both.ensures ∙ ap (λ (b : Bool). c.args.pointed and b) c.is_pointed.ensures) ∙ c.if-not-both.true) in
     record {
-      origins_after = rw (tip-none c.args.join c.args.connector none) refl;
-      pen_value = rw (tip-none c.args.join c.args.connector none) refl;
+      stored = rw (tip-none c.args.join c.args.connector none) refl;
+      stepped = rw (tip-none c.args.join c.args.connector none) refl;
     }
 
 pub store_move-requires : goal.store_move-requires
-store_move-requires c =
+store_move-requires g c =
     let some = sym c.is_pointed.ensures ∙ ((both_pass _ _).0 (sym c.both.ensures ∙ c.if-not-both.false)).1 in (
       (λ z. room_fewer (rw (tip-some c.args.join c.args.connector some) (omega arith)) (c.requires.rooms.0 z)),
       c.requires.rooms.1,
@@ -29,11 +29,11 @@ store_move-requires c =
 
 pub returns : goal.returns
 unfolding pen_by
-returns c =
+returns g c =
     let end = c.store_move in
     let tip = c.to_tip-tip.ensures in
     let some = sym c.is_pointed.ensures ∙ ((both_pass _ _).0 (sym c.both.ensures ∙ c.if-not-both.false)).1 in
     record {
-      origins_after = rw (tip-some c.args.join c.args.connector some, move_row) (end.ensures.origins_after ∙ rw tip);
-      pen_value = rw (tip-some c.args.join c.args.connector some) (end.ensures.pen_value.0 ∙ rw tip);
+      stored = rw (tip-some c.args.join c.args.connector some, move_row) (end.ensures.stored ∙ rw tip);
+      stepped = rw (tip-some c.args.join c.args.connector some) (end.ensures.stepped.0 ∙ rw tip);
     }

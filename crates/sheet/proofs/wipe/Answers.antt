@@ -2,16 +2,14 @@
 use native.Mathlib.Omega.{arith}
 use Rattle.moves.proofs.Origins.{origins-length}
 use Rattle.sheet.specs.InnerSteps.{wiped}
+use Rattle.sheet.proofs.Origins.{origins-cleared}
 use Rattle.sheet.proofs.wipe.Goals as goal
 
-pub clear_vertices-requires : goal.clear_vertices-requires
-clear_vertices-requires c = let pre = c.requires in omega (arith, pre.from-vertex, pre.vertices)
-
-pub clear_origins-requires : goal.clear_origins-requires
-clear_origins-requires c =
-    omega (arith, c.requires.from-flag, c.requires.origins, origins-length c.args.origins.now)
+pub clear-requires-3 : goal.clear-requires-3
+clear-requires-3 g c =
+    (c.requires.from-flag, omega (arith, c.requires.origins, origins-length c.args.marks.now.origins.now))
 
 pub returns : goal.returns
 unfolding wiped
-returns c =
-    rw (c.clear_vertices.ensures, c.clear_flags.ensures, c.clear_indexes.ensures, c.clear_origins.ensures)
+returns g c =
+    rw (c.clear_vertices.ensures, c.clear.ensures, c.clear-2.ensures, c.clear-3.ensures, origins-cleared)

@@ -10,16 +10,16 @@ use Rattle.sheet.proofs.Later.write.Goals as goal
 
 pub returns-then-not-self : goal.returns-then-not-self
 unfolding bulged_at
-returns-then-not-self c =
+returns-then-not-self g c =
     let none = not-true _ c.if-not-self.true in (no _ _ _ none refl, sym (reached-none c.args.self _ none))
 
 pub put_bulge-requires : goal.put_bulge-requires
-put_bulge-requires c =
+put_bulge-requires g c =
     c.requires.1 (not-false _ c.if-not-self.false)
 
 pub returns : goal.returns
 unfolding bulged_at tan_of bulge_of
-returns c =
+returns g c =
     let due = not-false _ c.if-not-self.false in
     let b = c.tan_by_eighth-bulge.ensures in
     let half = c.requires.0 due in

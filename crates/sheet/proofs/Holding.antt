@@ -1,86 +1,44 @@
--- What three lent lists hold, in either layout: a vertex or a bulge stored in them (`put-row`, `put_column`), a source copied into them (`copied-rows`, `copied-columns`), and what the
--- buffers are where they hold a drawing (`held-shown`), and the other way (`laid-rows`, `laid-columns`). Assumes nothing.
+-- What lent numbers hold, in either layout: a vertex or a bulge stored in them (`put-row`, `put_column`), and what the buffers are where they hold a drawing (`held-shown`), and the
+-- other way (`laid-rows`, `laid-columns`). Assumes nothing.
 use mathlib.Core.Path.{◌≡◌, refl, sym, ap, ◌∙◌}
 use mathlib.Core.List.{List, [], ◌∷◌, ◌++◌, map, map-append, append_assoc, append-nil}
-use mathlib.Core.Bool.{Bool, true, false}
-use Prim.Native.Nat.{ℕ, zero, suc, ◌+◌, ◌*◌, ◌-◌, ◌/◌, ◌≤◌, ◌<◌}
+use Prim.Native.Nat.{ℕ, zero, suc, ◌+◌, ◌*◌, ◌-◌, ◌/◌, ◌≤◌, ◌<◌, min}
 use native.Mathlib.Omega.{arith}
-use lib.ListN.{length, get_or, set, take, drop, replicate, length-set, length-append, length-drop, length-map}
-use lib.Seq.{drop-set-lt, drop-append-le, drop-append-add, drop-drop, drop_at, drop-length, take_at}
+use lib.ListN.{length, set, drop, replicate, length-set, length-map}
+use lib.Seq.{drop-set-lt, drop-append-le, drop_at, drop-length}
 use lib.Ieee.{Float}
 use Rattle.floats.specs.Binary64 as B
 use Rattle.segments.specs.declared.PlineVertex.{PlineVertex}
 use Rattle.source.specs.Source.{vertices_of, columns_of, Lent, rows, columns, vertices_in}
-use Rattle.source.specs.InnerSteps.{lent_by, least_of, count_by}
-use Rattle.source.proofs.Source.{least-three, count-is, count_most, row_within, column_within}
+use Rattle.source.proofs.Source.{length-vertices, length-columns, row_within, column_within}
 use Rattle.moves.specs.Origins.{origins_in}
 use Rattle.moves.specs.Drawing.{Drawing}
-use Rattle.moves.proofs.Origins.{origins_alike}
 use Rattle.sheet.specs.Buffers.{buffers, flat, xs_of, ys_of, bulges_of, padded, laid_in, shown}
-use Rattle.sheet.specs.InnerSteps.{Held, held_by, Contents, held, fitting, making, blank, showing, put_at, bulging, bulge_at, Alike, over, over_at}
+use Rattle.sheet.specs.InnerSteps.{Loans, Loaned, beyond, Held, held_by, Contents, held, fitting, making, blank, showing, put_at, bulging, bulge_at}
+use Rattle.sheet.specs.declared.lent.Marks.{Marks}
 use Rattle.sheet.proofs.Flat.{flat_append, length-flat}
 
-pub held-made : (c : Bool) (xs ys bs : List Float) → (held_by c xs ys bs).made ≡ vertices_in (lent_by c xs ys bs)
+pub held-made : (l : Loaned) → (held_by l).made ≡ vertices_in l.numbers
 unfolding held_by
-held-made c xs ys bs = refl
+held-made l = refl
 
-pub held-is : (h h' : Held) (vs : List PlineVertex) → h.made ≡ vs → h.beyond ≡ h'.beyond → h ≡ making vs h'
-held-is h h' vs e f = rw (← e, ← f)
+-- ---- how many vertices they hold, and the places of one
 
--- ---- how many vertices they hold
-
-pub held-count : (c : Bool) (xs ys bs : List Float) → length (held_by c xs ys bs).made ≡ count_by c (length xs) (length ys) (length bs)
+pub held-rows : (ns : List Float) (l : Loans) → length (held_by (record { numbers = rows ns; loans = l })).made ≡ length ns / 3
 unfolding held_by
-held-count c xs ys bs = count-is c xs ys bs
+held-rows ns l = length-vertices ns
 
-pub held-most : (c : Bool) (xs ys bs : List Float) → length (held_by c xs ys bs).made ≤ length xs
+pub held-columns : (xs ys bs : List Float) (l : Loans) → length (held_by (record { numbers = columns xs ys bs; loans = l })).made ≡ min (min (length xs) (length ys)) (length bs)
 unfolding held_by
-held-most c xs ys bs = count_most c xs ys bs
+held-columns xs ys bs l = length-columns xs ys bs
 
--- three lists as long as three others hold as many
-pub record Long (xs ys bs xs' ys' bs' : List Float) : Type 0 where
-  pub x : length xs' ≡ length xs
-  pub y : length ys' ≡ length ys
-  pub bulge : length bs' ≡ length bs
-
-pub long_same : {xs ys bs : List Float} → Long xs ys bs xs ys bs
-long_same = record { x = refl; y = refl; bulge = refl }
-
-pub held_alike : (c : Bool) (xs ys bs xs' ys' bs' : List Float) → Long xs ys bs xs' ys' bs' → length (held_by c xs' ys' bs').made ≡ length (held_by c xs ys bs).made
-held_alike c xs ys bs xs' ys' bs' l = held-count c xs' ys' bs' ∙ rw (l.x, l.y, l.bulge) (sym (held-count c xs ys bs))
-
-pub still_fits : {r m n : ℕ} → r ≤ m → n ≡ m → r ≤ n
-still_fits h e = omega arith
-
-pub all_alike : (c : Bool) (xs ys bs xs' ys' bs' : List Float) (f i o f' i' o' : List ℕ) → Long xs ys bs xs' ys' bs' → length f' ≡ length f → length i' ≡ length i → length o' ≡ length o
-    → Alike (held c xs ys bs f i o) (held c xs' ys' bs' f' i' o')
-all_alike c xs ys bs xs' ys' bs' f i o f' i' o' l p q r = record { vertices = held_alike c xs ys bs xs' ys' bs' l; flags = p; indexes = q; origins = origins_alike o o' r }
-
--- a place of a vertex is one of each column, or three of the rows
-pub held_column : (c : Bool) (xs ys bs : List Float) (k : ℕ) → c ≡ true → k < length (held_by c xs ys bs).made → (k < length xs) × (k < length ys) × (k < length bs)
+pub held-row : (ns : List Float) (l : Loans) (k : ℕ) → k < length (held_by (record { numbers = rows ns; loans = l })).made → 3 * k + 3 ≤ length ns
 unfolding held_by
-held_column c xs ys bs k e h = column_within xs ys bs k (rw e at h)
+held-row ns l k h = row_within ns k h
 
-pub held-row : (c : Bool) (xs ys bs : List Float) (k : ℕ) → c ≡ false → k < length (held_by c xs ys bs).made → 3 * k + 3 ≤ length xs
+pub held_column : (xs ys bs : List Float) (l : Loans) (k : ℕ) → k < length (held_by (record { numbers = columns xs ys bs; loans = l })).made → (k < length xs) × (k < length ys) × (k < length bs)
 unfolding held_by
-held-row c xs ys bs k e h = row_within xs k (rw e at h)
-
--- all v vertices of a source, and as many places
-pub column_places : (c : Bool) (xs ys bs ox oy ob : List Float) (v : ℕ) → c ≡ true → (v ≡ length (vertices_in (lent_by c xs ys bs))) × (v ≤ length (held_by c ox oy ob).made)
-    → ((v ≤ length xs) × (v ≤ length ys) × (v ≤ length bs)) × ((v ≤ length ox) × (v ≤ length oy) × (v ≤ length ob))
-column_places c xs ys bs ox oy ob v e h =
-    let n : length (vertices_in (lent_by c xs ys bs)) ≡ least_of (length xs) (least_of (length ys) (length bs)) = count-is c xs ys bs ∙ rw e in
-    let m : length (held_by c ox oy ob).made ≡ least_of (length ox) (least_of (length oy) (length ob)) = held-count c ox oy ob ∙ rw e in
-    let s = least-three (length xs) (length ys) (length bs) in
-    let t = least-three (length ox) (length oy) (length ob) in
-    ((omega arith, omega arith, omega arith), (omega arith, omega arith, omega arith))
-
-pub row-places : (c : Bool) (xs ys bs ox oy ob : List Float) (v : ℕ) → c ≡ false → (v ≡ length (vertices_in (lent_by c xs ys bs))) × (v ≤ length (held_by c ox oy ob).made)
-    → (3 * v ≤ length xs) × (3 * v ≤ length ox)
-row-places c xs ys bs ox oy ob v e h =
-    let n : length (vertices_in (lent_by c xs ys bs)) ≡ length xs / 3 = count-is c xs ys bs ∙ rw e in
-    let m : length (held_by c ox oy ob).made ≡ length ox / 3 = held-count c ox oy ob ∙ rw e in
-    (omega arith, omega arith)
+held_column xs ys bs l k h = column_within xs ys bs k h
 
 -- ---- a vertex stored
 
@@ -109,9 +67,10 @@ column_set (x ∷ xs) (y ∷ ys) [] (suc k) v = refl
 column_set (x ∷ xs) (y ∷ ys) (b ∷ bs) zero v = refl
 column_set (x ∷ xs) (y ∷ ys) (b ∷ bs) (suc k) v = ap (λ (t : List PlineVertex). record { x = x; y = y; bulge = b } ∷ t) (column_set xs ys bs k v)
 
-pub put-row : (ns ys bs : List Float) (k : ℕ) (v : PlineVertex) → k < length (held_by false ns ys bs).made → held_by false (row_set ns k v) ys bs ≡ put_at (held_by false ns ys bs) k v
+pub put-row : (ns : List Float) (l : Loans) (k : ℕ) (v : PlineVertex) → k < length (held_by (record { numbers = rows ns; loans = l })).made
+    → held_by (record { numbers = rows (row_set ns k v); loans = l }) ≡ put_at (held_by (record { numbers = rows ns; loans = l })) k v
 unfolding held_by
-put-row ns ys bs k v h =
+put-row ns l k v h =
     let n = length (vertices_of ns) in
     let e : length (set (vertices_of ns) k v) ≡ n = length-set (vertices_of ns) k v in
     rw (
@@ -122,17 +81,17 @@ put-row ns ys bs k v h =
       drop-set-lt (3 * n) ns (3 * k) v.x (omega arith),
     )
 
-pub put_column : (xs ys bs : List Float) (k : ℕ) (v : PlineVertex) → k < length (held_by true xs ys bs).made
-    → held_by true (set xs k v.x) (set ys k v.y) (set bs k v.bulge) ≡ put_at (held_by true xs ys bs) k v
+pub put_column : (xs ys bs : List Float) (l : Loans) (k : ℕ) (v : PlineVertex) → k < length (held_by (record { numbers = columns xs ys bs; loans = l })).made
+    → held_by (record { numbers = columns (set xs k v.x) (set ys k v.y) (set bs k v.bulge); loans = l }) ≡ put_at (held_by (record { numbers = columns xs ys bs; loans = l })) k v
 unfolding held_by
-put_column xs ys bs k v h =
+put_column xs ys bs l k v h =
     let n = length (columns_of xs ys bs) in
     let e : length (set (columns_of xs ys bs) k v) ≡ n = length-set (columns_of xs ys bs) k v in
     rw (column_set xs ys bs k v, e, drop-set-lt n xs k v.x h, drop-set-lt n ys k v.y h, drop-set-lt n bs k v.bulge h)
 
 -- ---- a bulge stored
 
-length-bulging : (k : ℕ) (b : Float) (vs : List PlineVertex) → length (bulging k b vs) ≡ length vs
+pub length-bulging : (k : ℕ) (b : Float) (vs : List PlineVertex) → length (bulging k b vs) ≡ length vs
 unfolding bulging
 length-bulging k b [] = refl
 length-bulging zero b (v ∷ vs) = refl
@@ -158,19 +117,21 @@ column_bulge (x ∷ xs) (y ∷ ys) [] k a = refl
 column_bulge (x ∷ xs) (y ∷ ys) (b ∷ bs) zero a = refl
 column_bulge (x ∷ xs) (y ∷ ys) (b ∷ bs) (suc k) a = ap (λ (t : List PlineVertex). record { x = x; y = y; bulge = b } ∷ t) (column_bulge xs ys bs k a)
 
-pub bulge-row : (ns ys bs : List Float) (k : ℕ) (a : Float) → k < length (held_by false ns ys bs).made → held_by false (set ns (3 * k + 2) a) ys bs ≡ bulge_at (held_by false ns ys bs) k a
+pub bulge-row : (ns : List Float) (l : Loans) (k : ℕ) (a : Float) → k < length (held_by (record { numbers = rows ns; loans = l })).made
+    → held_by (record { numbers = rows (set ns (3 * k + 2) a); loans = l }) ≡ bulge_at (held_by (record { numbers = rows ns; loans = l })) k a
 unfolding held_by
-bulge-row ns ys bs k a h =
+bulge-row ns l k a h =
     let n = length (vertices_of ns) in
     rw (row-bulge ns k a, length-bulging k a (vertices_of ns), drop-set-lt (3 * n) ns (3 * k + 2) a (omega arith))
 
-pub bulge_column : (xs ys bs : List Float) (k : ℕ) (a : Float) → k < length (held_by true xs ys bs).made → held_by true xs ys (set bs k a) ≡ bulge_at (held_by true xs ys bs) k a
+pub bulge_column : (xs ys bs : List Float) (l : Loans) (k : ℕ) (a : Float) → k < length (held_by (record { numbers = columns xs ys bs; loans = l })).made
+    → held_by (record { numbers = columns xs ys (set bs k a); loans = l }) ≡ bulge_at (held_by (record { numbers = columns xs ys bs; loans = l })) k a
 unfolding held_by
-bulge_column xs ys bs k a h =
+bulge_column xs ys bs l k a h =
     let n = length (columns_of xs ys bs) in
     rw (column_bulge xs ys bs k a, length-bulging k a (columns_of xs ys bs), drop-set-lt n bs k a h)
 
--- ---- a source copied
+-- ---- numbers as those of vertices and those beyond
 
 flat-made : (vs : List PlineVertex) (ns : List Float) → vertices_of (flat vs ++ ns) ≡ vs ++ vertices_of ns
 unfolding flat vertices_of
@@ -231,68 +192,25 @@ columns-drop (suc k) (x ∷ xs) (y ∷ ys) [] = none (drop k xs) (drop k ys)
     none (s ∷ ss) (t ∷ ts) = refl
 columns-drop (suc k) (x ∷ xs) (y ∷ ys) (b ∷ bs) = columns-drop k xs ys bs
 
-module _ {A : Type 0} where
-  -- past what was written over a list it is the same
-  past : (p o : List A) (n m : ℕ) → length p ≡ n → n ≤ m → drop m (p ++ drop n o) ≡ drop m o
-  past p o n m e h =
-      let i : m ≡ length p + (m - n) = omega arith in
-      let j : n + (m - n) ≡ m = omega arith in
-      ap (λ (k : ℕ). drop k (p ++ drop n o)) i ∙ drop-append-add p (drop n o) (m - n) ∙ drop-drop (m - n) n o ∙ ap (λ (k : ℕ). drop k o) j
-
-  -- what is written over a list, by its front
-  over-front : (s o p : List A) (n : ℕ) → take n s ≡ p → length p ≡ n → over (take n s) o ≡ p ++ drop n o
-  over-front s o p n e l = rw (e, l)
-
-length_over : (vs ws : List PlineVertex) → length vs ≤ length ws → length (over vs ws) ≡ length ws
-length_over vs ws h = omega (arith, length-append vs (drop (length vs) ws), length-drop (length vs) ws)
-
-pub copied-rows : (ns o ys bs : List Float) → length (vertices_of ns) ≤ length (held_by false o ys bs).made
-    → held_by false (over (take (3 * length (vertices_of ns)) ns) o) ys bs ≡ over_at (vertices_of ns) (held_by false o ys bs)
-unfolding held_by
-copied-rows ns o ys bs h =
-    let vs = vertices_of ns in
-    let n = 3 * length vs in
-    let front : take n ns ≡ flat vs = ap (take n) (sym (row-split ns)) ∙ take_at (flat vs) (drop n ns) n (length-flat vs) in
-    let made : vertices_of (flat vs ++ drop n o) ≡ over vs (vertices_of o) = flat-made vs (drop n o) ∙ rw (rows_drop (length vs) o) in
-    rw (over-front ns o (flat vs) n front (length-flat vs), made, length_over vs (vertices_of o) h, past (flat vs) o n (3 * length (vertices_of o)) (length-flat vs) (omega arith))
-
--- one of three columns
-column_front : (f : PlineVertex → Float) (vs : List PlineVertex) (s r : List Float) → map f vs ++ r ≡ s → (take (length vs) s ≡ map f vs) × (length (map f vs) ≡ length vs)
-column_front f vs s r e = (ap (take (length vs)) (sym e) ∙ take_at (map f vs) r (length vs) (length-map vs f), length-map vs f)
-
-pub copied-columns : (xs ys bs ox oy ob : List Float) → length (columns_of xs ys bs) ≤ length (held_by true ox oy ob).made
-    → let n = length (columns_of xs ys bs) in held_by true (over (take n xs) ox) (over (take n ys) oy) (over (take n bs) ob) ≡ over_at (columns_of xs ys bs) (held_by true ox oy ob)
-unfolding held_by
-copied-columns xs ys bs ox oy ob h =
-    let vs = columns_of xs ys bs in
-    let n = length vs in
-    let s = columns-split xs ys bs in
-    let a = column_front (λ (v : PlineVertex). v.x) vs xs (drop n xs) s.x in
-    let b = column_front (λ (v : PlineVertex). v.y) vs ys (drop n ys) s.y in
-    let c = column_front (λ (v : PlineVertex). v.bulge) vs bs (drop n bs) s.bulge in
-    let made : columns_of (xs_of vs ++ drop n ox) (ys_of vs ++ drop n oy) (bulges_of vs ++ drop n ob) ≡ over vs (columns_of ox oy ob) = columns-made vs (drop n ox) (drop n oy) (drop n ob) ∙ rw (columns-drop n ox oy ob) in
-    rw (
-      over-front xs ox (xs_of vs) n a.0 a.1,
-      over-front ys oy (ys_of vs) n b.0 b.1,
-      over-front bs ob (bulges_of vs) n c.0 c.1,
-      made,
-      length_over vs (columns_of ox oy ob) h,
-      past (xs_of vs) ox n (length (columns_of ox oy ob)) a.1 h,
-      past (ys_of vs) oy n (length (columns_of ox oy ob)) b.1 h,
-      past (bulges_of vs) ob n (length (columns_of ox oy ob)) c.1 h,
-    )
-
 -- ---- a drawing in the first places
 
--- the lists that hold so
-abbrev joined : Bool → Held → Lent
-joined true h = columns (xs_of h.made ++ get_or h.beyond 0 []) (ys_of h.made ++ get_or h.beyond 1 []) (bulges_of h.made ++ get_or h.beyond 2 [])
-joined false h = rows (flat h.made ++ get_or h.beyond 0 [])
+-- the numbers that hold so
+abbrev joined_by : List PlineVertex → List (List Float) → Lent
+joined_by vs [] = rows []
+joined_by vs (r ∷ []) = rows (flat vs ++ r)
+joined_by vs (x ∷ y ∷ []) = rows []
+joined_by vs (x ∷ y ∷ b ∷ rs) = columns (xs_of vs ++ x) (ys_of vs ++ y) (bulges_of vs ++ b)
 
-joined-held : (c : Bool) (xs ys bs : List Float) → joined c (held_by c xs ys bs) ≡ lent_by c xs ys bs
+abbrev joined : Held → Lent
+joined h = joined_by h.made h.beyond
+
+joined-numbers : (l : Lent) → joined_by (vertices_in l) (beyond l) ≡ l
+joined-numbers (rows ns) = ap rows (row-split ns)
+joined-numbers (columns xs ys bs) = let s = columns-split xs ys bs in rw (s.x, s.y, s.bulge)
+
+joined-held : (l : Loaned) → joined (held_by l) ≡ l.numbers
 unfolding held_by
-joined-held true xs ys bs = let s = columns-split xs ys bs in rw (s.x, s.y, s.bulge)
-joined-held false xs ys bs = ap rows (row-split xs)
+joined-held l = joined-numbers l.numbers
 
 flat-blank : (n : ℕ) → flat (replicate n blank) ≡ replicate (3 * n) B.zero
 unfolding flat
@@ -325,25 +243,28 @@ module _ (room : ℕ) (vs ws : List PlineVertex) (fits : room ≤ length ws) whe
   column_padded f z r =
       simp map-append (rw (map-blank f z, map-drop, length-map vs f, drop-append-le room (map f ws) r (omega (arith, length-map ws f))) (simp append_assoc))
 
-joined-padded : (c : Bool) (room : ℕ) (vs : List PlineVertex) (h : Held) → room ≤ length h.made → joined c (making (padded blank room vs h.made) h) ≡ laid_in room vs (joined c h)
-joined-padded true room vs h fits =
-    let a = column_padded room vs h.made fits (λ (v : PlineVertex). v.x) refl (get_or h.beyond 0 []) in
-    let b = column_padded room vs h.made fits (λ (v : PlineVertex). v.y) refl (get_or h.beyond 1 []) in
-    let c = column_padded room vs h.made fits (λ (v : PlineVertex). v.bulge) refl (get_or h.beyond 2 []) in
-    rw (a, b, c)
-joined-padded false room vs h fits = ap rows (row-padded room vs h.made fits (get_or h.beyond 0 []))
+padded-numbers : (room : ℕ) (vs : List PlineVertex) (l : Lent) → room ≤ length (vertices_in l) → joined_by (padded blank room vs (vertices_in l)) (beyond l) ≡ laid_in room vs l
+padded-numbers room vs (rows ns) fits =
+    ap rows (row-padded room vs (vertices_of ns) fits (drop (3 * length (vertices_of ns)) ns) ∙ ap (padded B.zero (3 * room) (flat vs)) (row-split ns))
+padded-numbers room vs (columns xs ys bs) fits =
+    let n = length (columns_of xs ys bs) in
+    let s = columns-split xs ys bs in
+    let a = column_padded room vs (columns_of xs ys bs) fits (λ (v : PlineVertex). v.x) refl (drop n xs) in
+    let b = column_padded room vs (columns_of xs ys bs) fits (λ (v : PlineVertex). v.y) refl (drop n ys) in
+    let c = column_padded room vs (columns_of xs ys bs) fits (λ (v : PlineVertex). v.bulge) refl (drop n bs) in
+    rw (a, b, c, s.x, s.y, s.bulge)
 
-pub lent-shown : (c : Bool) (xs ys bs xs' ys' bs' : List Float) (room : ℕ) (vs : List PlineVertex) → room ≤ length (held_by c xs ys bs).made
-    → held_by c xs' ys' bs' ≡ making (padded blank room vs (held_by c xs ys bs).made) (held_by c xs ys bs) → lent_by c xs' ys' bs' ≡ laid_in room vs (lent_by c xs ys bs)
-lent-shown c xs ys bs xs' ys' bs' room vs fits e =
-    sym (joined-held c xs' ys' bs') ∙ ap (joined c) e ∙ joined-padded c room vs (held_by c xs ys bs) fits ∙ ap (laid_in room vs) (joined-held c xs ys bs)
+pub lent-shown : (l l' : Loaned) (room : ℕ) (vs : List PlineVertex) → room ≤ length (held_by l).made
+    → held_by l' ≡ making (padded blank room vs (held_by l).made) (held_by l) → l'.numbers ≡ laid_in room vs l.numbers
+unfolding held_by
+lent-shown l l' room vs fits e = sym (joined-held l') ∙ ap joined e ∙ padded-numbers room vs l.numbers fits
 
 -- buffers that hold a drawing so are those in which it is shown
-pub held-shown : (c : Bool) (xs ys bs xs' ys' bs' : List Float) (f i o f' i' o' : List ℕ) (room : ℕ) (d : Drawing) → room ≤ fitting (held c xs ys bs f i o)
-    → held c xs' ys' bs' f' i' o' ≡ showing room d (held c xs ys bs f i o) → buffers (lent_by c xs' ys' bs') f' i' (origins_in o') ≡ shown room d (buffers (lent_by c xs ys bs) f i (origins_in o))
+pub held-shown : (l l' : Loaned) (m m' : Marks) (room : ℕ) (d : Drawing) → room ≤ fitting (held l m) → held l' m' ≡ showing room d (held l m)
+    → buffers l'.numbers m'.flags.now m'.indexes.now (origins_in m'.origins.now) ≡ shown room d (buffers l.numbers m.flags.now m.indexes.now (origins_in m.origins.now))
 unfolding showing shown
-held-shown c xs ys bs xs' ys' bs' f i o f' i' o' room d fits e =
-    let v = lent-shown c xs ys bs xs' ys' bs' room d.vertices fits (ap (λ (b : Contents). b.vertices) e) in
+held-shown l l' m m' room d fits e =
+    let v = lent-shown l l' room d.vertices fits (ap (λ (b : Contents). b.vertices) e) in
     let flags = ap (λ (b : Contents). b.flags) e in
     let indexes = ap (λ (b : Contents). b.indexes) e in
     let origins = ap (λ (b : Contents). b.origins) e in
