@@ -1,9 +1,9 @@
--- `moves::Origin::of_code` meets its contract. Assumes nothing.
+-- `moves::OriginFromU32::from` meets its contract. Assumes nothing.
 use mathlib.Core.Path.{refl}
 use borrow.Author.Tests.{eq-eqb, ne_eqb}
 use Rattle.floats.proofs.Choice.{yes, no}
 use Rattle.moves.specs.Origins.{origin_of}
-use Rattle.moves.proofs.Origin.of_code.Goals as goal
+use Rattle.moves.proofs.OriginFromU32.from.Goals as goal
 
 pub returns-then-code-eq0 : goal.returns-then-code-eq0
 unfolding origin_of
