@@ -1,6 +1,7 @@
 -- What a caller in C is handed of two outputs (02's 2026-03). Definitions only.
 use Rattle.std.specs.Prelude.{ℕ, List, [], ◌∷◌}
-use Rattle.compare.specs.Compare.{Outcome, number, place, differences_of, marks_number}
+use Rattle.refusals.specs.Table.{number, place}
+use Rattle.compare.specs.Compare.{Outcome, differences_of, marks_number}
 
 -- the number returned, the five numbers of `answer`, and the two lent buffers
 pub record Handed : Type 0 where

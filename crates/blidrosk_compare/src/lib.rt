@@ -5,6 +5,9 @@ ghost use Rattle.std.specs.Prelude.{◌≡◌};
 ghost use Rattle.compare.specs.Compare.{output, compare_of};
 ghost use Rattle.blidrosk_compare.specs.Handed.{handed, handed_of};
 
+use compare::{Differences, Output};
+use refusals::Answer;
+
 // Lays two outputs side by side and returns the number of the answer. `answer` is set to number, place,
 // how many vertices are listed, how many only one output has, and whether the closed marks differ, 1 or 0.
 // The list goes to the start of `numbers` and `fields`.
@@ -23,8 +26,18 @@ pub extern "C" fn blidrosk_compare(
     ensures { handed result answer.new numbers.new fields.new
         ≡ handed_of (compare_of (output a.now a_closed a_flags.now) (output b.now b_closed b_flags.now) numbers.old fields.old) }
 {
-    let compared = compare::compare(a, a_closed, a_flags, b, b_closed, b_flags, numbers, fields);
-    let found = compared.differences();
+    let first = Output {
+        numbers: a,
+        closed: a_closed,
+        flags: a_flags,
+    };
+    let second = Output {
+        numbers: b,
+        closed: b_closed,
+        flags: b_flags,
+    };
+    let compared = compare::compare(&first, &second, numbers, fields);
+    let found = compared.unwrap_or(Differences::none());
     let number = compared.number();
     *answer = [
         number,

@@ -6,6 +6,8 @@ ghost use Rattle.moves.specs.Origins.{origins_in};
 ghost use Rattle.part.specs.Part.{part_answer};
 ghost use Rattle.blidrosk_part.specs.Handed.{handed, handed_of};
 
+use part::Bounds;
+use refusals::Answer;
 use segments::SourceSegment;
 
 // Finds the part of a drawing of a source of `n` segments that is `source_segment`'s, and returns the
@@ -22,9 +24,8 @@ pub extern "C" fn blidrosk_part(
     ensures { handed result answer.new ≡ handed_of (part_answer n (length flags.now) (origins_in origins.now) source_segment) }
 {
     let found = part::find(n, flags.len(), origins, SourceSegment(source_segment));
-    let bounds = found.bounds();
-    let start = bounds.start;
+    let bounds = found.unwrap_or(Bounds::empty());
     let number = found.number();
-    *answer = [number, found.place(), start.0, bounds.count];
+    *answer = [number, found.place(), bounds.start.0, bounds.count];
     number
 }

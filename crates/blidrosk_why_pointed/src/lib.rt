@@ -9,6 +9,7 @@ ghost use Rattle.why.specs.Why.{why_of, numbers_of};
 ghost use Rattle.why.specs.Handed.{handed, handed_of};
 
 use segments::{OutputSegment, Settings};
+use why::WhyNumbers;
 
 // Tells of output segment `segment` of a job, and returns the number of the answer. `answer` is set to
 // number, place, 1 for a connector, source segment, reason, and the rules at the span's start and end;
@@ -28,5 +29,5 @@ pub extern "C" fn blidrosk_why_pointed(
 {
     let settings = Settings::pointed(offset, eps, ratio);
     let told = why::why(source, closed, settings, OutputSegment(segment));
-    told.numbers().hand(answer, params)
+    WhyNumbers::from(told).hand(answer, params)
 }

@@ -7,13 +7,14 @@ use Prim.Native.Nat.{ℕ, ◌<◌}
 use native.Mathlib.Omega.{arith}
 use lib.ListN.{length, drop, length-map}
 use lib.Seq.{take_at, drop_at}
+use Rattle.std.specs.Prelude.{Ok, Err}
 use Rattle.floats.proofs.Choice.{no}
 use Rattle.refusals.specs.declared.Refusal.TheVariants.{Ragged, TooMany, NoRoom}
+use Rattle.refusals.specs.Table.{number}
 use Rattle.refusals.proofs.First.{by_test}
 use Rattle.moves.specs.Choice.{Rising}
 use Rattle.compare.specs.declared.Fields.{Fields}
-use Rattle.compare.specs.declared.CompareAnswer.TheVariants.{Compared, Refused}
-use Rattle.compare.specs.Compare.{Output, points_of, fields_at, any_of, shared, list_of, is_even, is_many, has_room, number_in, code_in, found_in, at_front, Outcome, outcome, listing, compare_of, number}
+use Rattle.compare.specs.Compare.{Output, points_of, fields_at, any_of, shared, list_of, is_even, is_many, has_room, number_in, code_in, found_in, at_front, Outcome, outcome, listing, compare_of}
 use Rattle.compare.specs.Claim.{Doubles, Differing, Same, Nothing, Claim}
 use Rattle.compare.proofs.Answers.{no_room, ragged-first, many-first, ragged-second, many-second, both-good}
 use Rattle.compare.proofs.Listed.{listed_of, of-listed, entries_rise}
@@ -70,7 +71,7 @@ module _ (a b : Output) where
 
 module _ (a b : Output) (numbers fields : List ℕ) where
   abbrev pub done : Outcome
-  done = outcome (Compared (found_in a b)) (at_front (map number_in (list_of a b)) numbers) (at_front (map code_in (list_of a b)) fields)
+  done = outcome (Ok (found_in a b)) (at_front (map number_in (list_of a b)) numbers) (at_front (map code_in (list_of a b)) fields)
 
   -- it was refused by no test
   record Passed : Type 0 where
@@ -92,7 +93,7 @@ module _ (a b : Output) (numbers fields : List ℕ) where
       (λ (t : room ≡ true). record { first = p; second = r; is = both-good a b numbers fields p q r s (fitting t) })
       (λ (t : room ≡ false). absurd (nonzero (subst zero_of (sym (both-good a b numbers fields p q r s (no_room a b numbers fields refl t))) h)))
     where
-      nonzero : zero_of (outcome (Refused NoRoom) numbers fields) → ⊥
+      nonzero : zero_of (outcome (Err NoRoom) numbers fields) → ⊥
       nonzero e = omega arith
 
   passed : zero_of (compare_of a b numbers fields) → Passed
@@ -108,10 +109,10 @@ module _ (a b : Output) (numbers fields : List ℕ) where
       (λ (r : is_even b ≡ false). absurd (ragged (subst zero_of (sym (ragged-second a b numbers fields p q r)) h)))))
       (λ (p : is_even a ≡ false). absurd (ragged (subst zero_of (sym (ragged-first a b numbers fields p)) h)))
     where
-      ragged : zero_of (outcome (Refused Ragged) numbers fields) → ⊥
+      ragged : zero_of (outcome (Err Ragged) numbers fields) → ⊥
       ragged e = omega arith
 
-      many : zero_of (outcome (Refused TooMany) numbers fields) → ⊥
+      many : zero_of (outcome (Err TooMany) numbers fields) → ⊥
       many e = omega arith
 
   of-done : Doubles a.numbers → Doubles b.numbers → is_even a ≡ true → is_even b ≡ true → Claim a b numbers fields done

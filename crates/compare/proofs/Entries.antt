@@ -1,13 +1,15 @@
 -- The entry of a vertex, and the list that grows by it, in the lent buffers too. Assumes nothing.
 use mathlib.Core.Path.{◌≡◌, refl, sym, ap, ◌∙◌, subst}
 use mathlib.Core.List.{List, [], ◌∷◌, ◌++◌, map}
-use mathlib.Core.Bool.{true, false}
+use mathlib.Core.Bool.{Bool, true, false}
 use Prim.Native.Nat.{ℕ, zero, suc, ◌+◌, ◌-◌, ◌≤◌}
 use native.Mathlib.Nat.{add-zero, le_refl}
 use native.Mathlib.Numerals.{add-one}
 use native.Mathlib.Omega.{arith}
 use lib.ListN.{length, drop, set, length-append, length-drop, length-map}
 use lib.Seq.{sets, sets-eq, take_at, drop-drop, drop-append-add}
+use Rattle.std.specs.Int.{from_bool}
+use Rattle.floats.specs.Choice.{when◌give◌else◌}
 use Rattle.floats.proofs.Choice.{yes, no}
 use Rattle.segments.specs.declared.PlineVertex.{PlineVertex}
 use Rattle.compare.specs.declared.Fields.{Fields}
@@ -22,6 +24,15 @@ one_entry k f h = yes _ _ _ h refl
 pub no-entry : (k : ℕ) (f : Fields) → any_of f ≡ false → [] ≡ entries_for k f
 unfolding entries_for
 no-entry k f h = no _ _ _ h refl
+
+-- how many entries it has, as the code counts
+pub entry-byte : (k : ℕ) (f : Fields) → from_bool (any_of f) ≡ length (entries_for k f)
+unfolding entries_for when◌give◌else◌
+entry-byte k f = by (any_of f)
+  where
+    by : (t : Bool) → from_bool t ≡ length {A = Entry} (when t give record { number = k; fields = f } ∷ [] else [])
+    by true = refl
+    by false = refl
 
 -- what is stored of some entries from place `at` on, and the place past them
 abbrev pub Put : List Entry → ℕ → ℕ → List ℕ → List ℕ → List ℕ → List ℕ → Type 0

@@ -8,10 +8,10 @@ use native.Mathlib.Omega.{arith}
 use borrow.Author.Tests.{eqb-true, eqb-false, ltb-true, leb-false}
 use lib.Dec.{leb}
 use lib.ListN.{length}
+use Rattle.std.specs.Prelude.{Err}
 use Rattle.floats.proofs.Choice.{both_pass, either_fails}
 use Rattle.refusals.specs.declared.Refusal.TheVariants.{Ragged, TooMany, NoRoom}
 use Rattle.refusals.proofs.First.{by_test}
-use Rattle.compare.specs.declared.CompareAnswer.TheVariants.{Refused}
 use Rattle.compare.specs.Compare.{Output, list_of, is_even, is_many, has_room, Outcome, outcome, compare_of}
 use Rattle.compare.specs.Claim.{Even, Many, Fine, Roomy, Answers}
 use Rattle.compare.proofs.Answers.{fits, no_room, ragged-first, many-first, ragged-second, many-second, both-good, few}
@@ -53,7 +53,7 @@ module _ (a b : Output) (numbers fields : List ℕ) where
   abbrev Given : Outcome → Type 0
   Given o = Answers a b numbers fields o
 
-  by-ragged : (Even a → ⊥) → Given (outcome (Refused Ragged) numbers fields)
+  by-ragged : (Even a → ⊥) → Given (outcome (Err Ragged) numbers fields)
   by-ragged u = record {
     ragged = holds refl (inl u);
     many = fails (λ e. omega arith) (⊎_elim (λ h. u h.0) (λ h. u h.0.even));
@@ -63,7 +63,7 @@ module _ (a b : Output) (numbers fields : List ℕ) where
     refused = λ _. (refl, refl, refl);
   }
 
-  by-many : Even a → Many a → Given (outcome (Refused TooMany) numbers fields)
+  by-many : Even a → Many a → Given (outcome (Err TooMany) numbers fields)
   by-many e m = record {
     ragged = fails (λ z. omega arith) (⊎_elim (λ h. h e) (λ h. omega (arith, h.0.few)));
     many = holds refl (inl (e, m));
@@ -73,7 +73,7 @@ module _ (a b : Output) (numbers fields : List ℕ) where
     refused = λ _. (refl, refl, refl);
   }
 
-  by-second-ragged : Fine a → (Even b → ⊥) → Given (outcome (Refused Ragged) numbers fields)
+  by-second-ragged : Fine a → (Even b → ⊥) → Given (outcome (Err Ragged) numbers fields)
   by-second-ragged f u = record {
     ragged = holds refl (inr (f, u));
     many = fails (λ z. omega arith) (⊎_elim (λ h. omega (arith, h.1, f.few)) (λ h. u h.1));
@@ -83,7 +83,7 @@ module _ (a b : Output) (numbers fields : List ℕ) where
     refused = λ _. (refl, refl, refl);
   }
 
-  by-second-many : Fine a → Even b → Many b → Given (outcome (Refused TooMany) numbers fields)
+  by-second-many : Fine a → Even b → Many b → Given (outcome (Err TooMany) numbers fields)
   by-second-many f e m = record {
     ragged = fails (λ z. omega arith) (⊎_elim (λ h. h f.even) (λ h. h.1 e));
     many = holds refl (inr (f, e, m));
@@ -93,7 +93,7 @@ module _ (a b : Output) (numbers fields : List ℕ) where
     refused = λ _. (refl, refl, refl);
   }
 
-  by-room : Fine a → Fine b → (Roomy a b numbers fields → ⊥) → Given (outcome (Refused NoRoom) numbers fields)
+  by-room : Fine a → Fine b → (Roomy a b numbers fields → ⊥) → Given (outcome (Err NoRoom) numbers fields)
   by-room f g r = record {
     ragged = fails (λ z. omega arith) (⊎_elim (λ h. h f.even) (λ h. h.1 g.even));
     many = fails (λ z. omega arith) (⊎_elim (λ h. omega (arith, h.1, f.few)) (λ h. omega (arith, h.2, g.few)));

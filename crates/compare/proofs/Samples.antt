@@ -5,12 +5,12 @@ use mathlib.Core.List.{List, [], ◌∷◌, map}
 use mathlib.Core.Bool.{Bool, true, false}
 use Prim.Native.Nat.{ℕ}
 use lib.Ieee.{Float, binary64, of_bits, to_bits, nan}
+use Rattle.std.specs.Prelude.{Ok, Err}
 use Rattle.floats.specs.Choice.{when◌give◌else◌, ◌and◌, ◌or◌}
 use Rattle.floats.specs.Binary64.{zero, one, two}
 use Rattle.source.specs.Source.{vertices_of, segments_of}
 use Rattle.refusals.specs.declared.Refusal.{Refusal}
 use Rattle.refusals.specs.declared.Refusal.TheVariants.{Ragged, NoRoom}
-use Rattle.compare.specs.declared.CompareAnswer.TheVariants.{Compared, Refused}
 use Rattle.compare.specs.Compare.{Output, output, differ, fields_at, any_of, entries_for, entries_to, shared, unmatched, list_of, marks_differ, is_even, is_many, has_room, code_of, Outcome, outcome, listing, compare_of}
 
 unfoldable laid : Unit {0}
@@ -40,10 +40,10 @@ tight a b ns fs o = record { first = a; second = b; numbers = ns; fields = fs; o
 
 -- so many listed, so many of one alone, and whether the marks differ; and the buffers
 abbrev pub found : ℕ → ℕ → Bool → List ℕ → List ℕ → Outcome
-found n u m ns fs = outcome (Compared (record { listed = n; unmatched = u; marks = m })) ns fs
+found n u m ns fs = outcome (Ok (record { listed = n; unmatched = u; marks = m })) ns fs
 
 abbrev pub refused : Refusal → Outcome
-refused r = outcome (Refused r) three three
+refused r = outcome (Err r) three three
 
 abbrev pub minus_zero : Float
 minus_zero = of_bits binary64 0x8000_0000_0000_0000
@@ -97,8 +97,8 @@ rows =
     ∷ row (ring 0 0) (lone true (0 ∷ [])) (refused Ragged)
     ∷ tight plain plain [] [] (found 0 0 false [] [])
     ∷ tight plain (ring 1 1) (90 ∷ 91 ∷ []) (90 ∷ 91 ∷ []) (found 2 0 true (0 ∷ 1 ∷ []) (8 ∷ 8 ∷ []))
-    ∷ tight plain (ring 1 1) (90 ∷ []) three (outcome (Refused NoRoom) (90 ∷ []) three)
-    ∷ tight plain (ring 1 1) three (90 ∷ []) (outcome (Refused NoRoom) three (90 ∷ []))
+    ∷ tight plain (ring 1 1) (90 ∷ []) three (outcome (Err NoRoom) (90 ∷ []) three)
+    ∷ tight plain (ring 1 1) three (90 ∷ []) (outcome (Err NoRoom) three (90 ∷ []))
     ∷ []
 
 pub settled : map outcome_of rows ≡ map (λ (r : Row). r.outcome) rows

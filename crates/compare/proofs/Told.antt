@@ -1,15 +1,15 @@
 -- What differs, as a test and as a proposition, and that it can be read off its number. Assumes nothing.
 use mathlib.Core.Path.{◌≡◌, refl, sym, ap, ◌∙◌}
 use mathlib.Core.Logic.{◌↔◌, ◌⊎◌, inl, inr, ⊎_elim}
-use mathlib.Core.Bool.{Bool, true, false, not, false≢true}
+use mathlib.Core.Bool.{Bool, true, false, not, beq, false≢true}
 use Prim.Native.Nat.{ℕ, ◌+◌, ◌-◌, ◌*◌, ◌≤◌, ◌<◌}
 use native.Mathlib.Omega.{arith}
-use borrow.Author.Tests.{eqb-true, eqb-false, eq-eqb, ne_eqb, ltb-true, ltb-false, not-true, not-false}
-use lib.Dec.{T, eqb, ltb}
+use borrow.Author.Tests.{eqb-true, eqb-false, eq-eqb, ne_eqb, not-true, not-false}
+use lib.Dec.{T, eqb}
 use lib.Ieee.{Float, binary64, to_bits, of_bits, fits}
 use lib.Ieee.Bits.{of_bits-to_bits}
+use Rattle.std.specs.Int.{from_bool}
 use Rattle.floats.specs.Choice.{when◌give◌else◌, ◌or◌}
-use Rattle.floats.proofs.Choice.{yes, no}
 use Rattle.refusals.proofs.First.{by_test}
 use Rattle.compare.specs.declared.Fields.{Fields}
 use Rattle.compare.specs.Compare.{differ, any_of, bit_of, code_of, shared, unmatched, marks_differ}
@@ -82,12 +82,22 @@ none_any f p q r s = rw (p, q, r, s)
 
 -- ---- as one number
 
+-- a test as a byte, as the code has it
+pub bit-byte : (b : Bool) → from_bool b ≡ bit_of b 1
+unfolding when◌give◌else◌
+bit-byte true = refl
+bit-byte false = refl
+
+pub byte-most : (b : Bool) → from_bool b ≤ 1
+byte-most true = omega arith
+byte-most false = omega arith
+
 bit-one : (b : Bool) → bit_of b 1 ≤ 1
 unfolding when◌give◌else◌
 bit-one true = omega arith
 bit-one false = omega arith
 
-bit_times : (b : Bool) (n : ℕ) → bit_of b n ≡ n * bit_of b 1
+pub bit_times : (b : Bool) (n : ℕ) → bit_of b n ≡ n * bit_of b 1
 unfolding when◌give◌else◌
 bit_times true n = omega arith
 bit_times false n = omega arith
@@ -120,23 +130,20 @@ code-fields f g e =
 
 pub unmatched-is : (v w : ℕ) → unmatched v w ≡ (v - w) + (w - v)
 unfolding unmatched
-unmatched-is v w =
-    by_test (ltb v w) (λ (t : ltb v w ≡ true). sym (yes _ _ _ t refl) ∙ (let h = ltb-true v w t in omega arith))
-    (λ (t : ltb v w ≡ false). sym (no _ _ _ t refl) ∙ (let h = ltb-false v w t in omega arith))
+unmatched-is v w = refl
 
 -- a vertex is one of those that both have
 pub below-shared : (v w k : ℕ) → (k < shared v w) ↔ ((k < v) × (k < w))
 unfolding shared
-below-shared v w k =
-    by_test (ltb v w)
-    (λ (t : ltb v w ≡ true).
-    let h = ltb-true v w t in
-    let is : v ≡ when ltb v w give v else w = yes _ _ _ t refl in
-    (λ l. (omega arith, omega arith), λ l. omega arith))
-    (λ (t : ltb v w ≡ false).
-    let h = ltb-false v w t in
-    let is : w ≡ when ltb v w give v else w = no _ _ _ t refl in
-    (λ l. (omega arith, omega arith), λ l. omega arith))
+below-shared v w k = (λ l. (omega arith, omega arith), λ l. omega arith)
+
+-- as the code tells them apart
+pub marks-unequal : (a b : Bool) → not (beq a b) ≡ marks_differ a b
+unfolding marks_differ when◌give◌else◌
+marks-unequal true true = refl
+marks-unequal true false = refl
+marks-unequal false true = refl
+marks-unequal false false = refl
 
 pub marks-same : (a b : Bool) → marks_differ a b ≡ false → a ≡ b
 unfolding marks_differ when◌give◌else◌

@@ -5,10 +5,11 @@ use mathlib.Core.List.{List, map, Memᴰ}
 use Rattle.std.specs.Float.{binary64, nan}
 use Rattle.std.specs.Float.Ieee.{to_bits, fits}
 use Rattle.source.specs.Source.{segments_of}
+use Rattle.refusals.specs.Table.{number, place}
 use Rattle.moves.specs.Choice.{Rising}
 use Rattle.compare.specs.declared.Fields.{Fields}
 use Rattle.compare.specs.declared.Differences.{Differences}
-use Rattle.compare.specs.Compare.{Output, points_of, vertex_at, flag_at, Entry, list_of, number_in, code_in, code_of, Outcome, number, place, none, differences_of}
+use Rattle.compare.specs.Compare.{Output, points_of, vertex_at, flag_at, Entry, list_of, number_in, code_in, code_of, Outcome, none, differences_of}
 
 -- each number of a list is a double, as in every list that is lent; past its end stands a NaN, which is one
 abbrev pub Doubles : List Float → Type 0

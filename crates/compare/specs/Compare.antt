@@ -1,16 +1,15 @@
 -- Two outputs side by side (02's 2026-03): what is compared, which vertices are listed and with what, and the refusals. Definitions only.
-use Rattle.std.specs.Prelude.{ℕ, zero, suc, ◌+◌, ◌-◌, List, [], ◌∷◌, ◌++◌, map, Bool, false, not, eqb, ltb, leb, length, drop, get_or, Float}
+use Rattle.std.specs.Prelude.{ℕ, zero, suc, ◌+◌, ◌-◌, List, [], ◌∷◌, ◌++◌, map, Bool, false, not, eqb, ltb, leb, length, drop, get_or, min, Float, Result, Ok, Err}
 use Rattle.std.specs.Float.{binary64, nan}
 use Rattle.std.specs.Float.Ieee.{to_bits}
+use Rattle.std.specs.Result.{result_unwrap_or}
 use Rattle.floats.specs.Choice.{when◌give◌else◌, ◌and◌, ◌or◌}
 use Rattle.segments.specs.declared.PlineVertex.{PlineVertex}
 use Rattle.source.specs.Source.{rows, is_whole, vertices_of, segments_of}
+use Rattle.refusals.specs.declared.Refusal.{Refusal}
 use Rattle.refusals.specs.declared.Refusal.TheVariants.{Ragged, TooMany, NoRoom}
-use Rattle.refusals.specs.Table.{number_of, place_of}
 use Rattle.compare.specs.declared.Fields.{Fields}
 use Rattle.compare.specs.declared.Differences.{Differences}
-use Rattle.compare.specs.declared.CompareAnswer.{CompareAnswer}
-use Rattle.compare.specs.declared.CompareAnswer.TheVariants.{Compared, Refused}
 
 -- an output as it is lent: three numbers a vertex, the closed mark, and the flags
 pub record Output : Type 0 where
@@ -68,10 +67,10 @@ entries_to vs fs ws gs (suc k) = entries_to vs fs ws gs k ++ entries_for k (fiel
 
 -- how many vertices both have, and how many only one has
 unfoldable pub shared : ℕ → ℕ → ℕ
-shared v w = when ltb v w give v else w
+shared v w = min v w
 
 unfoldable pub unmatched : ℕ → ℕ → ℕ
-unmatched v w = when ltb v w give w - v else v - w
+unmatched v w = (v - w) + (w - v)
 
 -- the whole list of two outputs: those that only one has are counted, and not listed
 unfoldable pub list_of : Output → Output → List Entry
@@ -104,11 +103,11 @@ code_of f = bit_of f.x 1 + bit_of f.y 2 + bit_of f.bulge 4 + bit_of f.flag 8
 
 -- the answer, and what the two lent buffers hold
 pub record Outcome : Type 0 where
-  pub answer : CompareAnswer
+  pub answer : Result Differences Refusal
   pub numbers : List ℕ
   pub fields : List ℕ
 
-abbrev pub outcome : CompareAnswer → List ℕ → List ℕ → Outcome
+abbrev pub outcome : Result Differences Refusal → List ℕ → List ℕ → Outcome
 outcome a numbers fields = record { answer = a; numbers = numbers; fields = fields }
 
 abbrev pub number_in : Entry → ℕ
@@ -131,35 +130,26 @@ at_front list old = list ++ drop (length list) old
 -- of two outputs that can be compared
 unfoldable pub listing : Output → Output → List ℕ → List ℕ → Outcome
 listing a b numbers fields =
-    when not (has_room (length (list_of a b)) (length numbers) (length fields)) give outcome (Refused NoRoom) numbers fields else
-    outcome (Compared (found_in a b)) (at_front (map number_in (list_of a b)) numbers) (at_front (map code_in (list_of a b)) fields)
+    when not (has_room (length (list_of a b)) (length numbers) (length fields)) give outcome (Err NoRoom) numbers fields else
+    outcome (Ok (found_in a b)) (at_front (map number_in (list_of a b)) numbers) (at_front (map code_in (list_of a b)) fields)
 
 -- the first output is tested, and then the second; a refusal leaves both buffers as they were
 unfoldable pub compare_of : Output → Output → List ℕ → List ℕ → Outcome
 compare_of a b numbers fields =
-    when not (is_even a) give outcome (Refused Ragged) numbers fields else
-    when is_many a.numbers give outcome (Refused TooMany) numbers fields else
-    when not (is_even b) give outcome (Refused Ragged) numbers fields else
-    when is_many b.numbers give outcome (Refused TooMany) numbers fields else
+    when not (is_even a) give outcome (Err Ragged) numbers fields else
+    when is_many a.numbers give outcome (Err TooMany) numbers fields else
+    when not (is_even b) give outcome (Err Ragged) numbers fields else
+    when is_many b.numbers give outcome (Err TooMany) numbers fields else
     listing a b numbers fields
 
 -- ---- as callers get it
-
-abbrev pub number : CompareAnswer → ℕ
-number (Compared d) = 0
-number (Refused r) = number_of r
-
-abbrev pub place : CompareAnswer → ℕ
-place (Compared d) = 0
-place (Refused r) = place_of r
 
 abbrev pub none : Differences
 none = record { listed = 0; unmatched = 0; marks = false }
 
 -- what differs; of a refusal nothing is told
-abbrev pub differences_of : CompareAnswer → Differences
-differences_of (Compared d) = d
-differences_of (Refused r) = none
+abbrev pub differences_of : Result Differences Refusal → Differences
+differences_of answer = result_unwrap_or answer none
 
 -- 1 where the closed marks differ, and 0 where they do not
 abbrev pub marks_number : Differences → ℕ

@@ -2,12 +2,13 @@
 // the two has, and whether the closed marks differ. Numbers are compared by their bits.
 #![tactic(auto)]
 
-ghost use Rattle.std.specs.Prelude.{◌≡◌, map, ℕ, ◌+◌, ◌≤◌, ◌<◌, length};
+ghost use Rattle.std.specs.Prelude.{◌≡◌, map, not, ◌+◌, ◌≤◌, ◌<◌, length, Ok, Err};
 ghost use Rattle.std.proofs.lemmas.List.Edits.{sets};
-ghost use Rattle.source.specs.Source.{vertices_of};
-ghost use Rattle.compare.specs.Compare.{differ, flag_at, fields_at, any_of, bit_of, code_of, entries_for, entries_to, number_in, code_in, shared, unmatched, marks_differ, output, is_even, is_many, has_room, at_front, outcome, listing, compare_of, none, differences_of, marks_number, number, place};
+ghost use Rattle.floats.specs.Choice.{when◌give◌else◌};
+ghost use Rattle.compare.specs.Compare.{Output as Lent, output, points_of, differ, flag_at, fields_at, any_of, code_of, entries_for, entries_to, number_in, code_in, is_even, is_many, has_room, at_front, outcome, listing, compare_of, none, marks_number};
 
 use refusals::Refusal;
+use std::marker::Model;
 
 // No output has more: three for each vertex of the largest source.
 const MOST_VERTICES: usize = 12288;
@@ -25,14 +26,14 @@ impl Fields {
     fn any(self) -> bool
         ensures { result ≡ any_of self }
     {
-        self.x || (self.y || (self.bulge || self.flag))
+        self.x || self.y || self.bulge || self.flag
     }
 
     // As one number: a bit for each, x in the lowest.
     pub fn code(self) -> u8
         ensures { result ≡ code_of self }
     {
-        bit(self.x, 1) + bit(self.y, 2) + bit(self.bulge, 4) + bit(self.flag, 8)
+        u8::from(self.x) + 2 * u8::from(self.y) + 4 * u8::from(self.bulge) + 8 * u8::from(self.flag)
     }
 }
 
@@ -45,7 +46,8 @@ pub struct Differences {
 }
 
 impl Differences {
-    fn none() -> Differences
+    // What a refusal tells of.
+    pub fn none() -> Differences
         ensures { result ≡ none }
     {
         Differences {
@@ -59,57 +61,8 @@ impl Differences {
     pub fn marks_number(self) -> u32
         ensures { result ≡ marks_number self }
     {
-        if self.marks {
-            return 1;
-        }
-        0
+        u32::from(self.marks)
     }
-}
-
-#[derive(Clone, Copy)]
-pub enum CompareAnswer {
-    Compared(Differences),
-    Refused(Refusal),
-}
-
-impl CompareAnswer {
-    // What differs; of a refusal nothing is told.
-    pub fn differences(self) -> Differences
-        ensures { result ≡ differences_of self }
-    {
-        match self {
-            CompareAnswer::Compared(found) => found,
-            CompareAnswer::Refused(_) => Differences::none(),
-        }
-    }
-
-    pub fn number(self) -> u32
-        ensures { result ≡ number self }
-    {
-        match self {
-            CompareAnswer::Compared(_) => 0,
-            CompareAnswer::Refused(refusal) => refusal.number(),
-        }
-    }
-
-    pub fn place(self) -> u32
-        ensures { result ≡ place self }
-    {
-        match self {
-            CompareAnswer::Compared(_) => 0,
-            CompareAnswer::Refused(refusal) => refusal.place(),
-        }
-    }
-}
-
-fn bit(set: bool, value: u8) -> u8
-    ensures value { result ≡ bit_of set value }
-    ensures upper_bound { result ≤ value }
-{
-    if set {
-        return value;
-    }
-    0
 }
 
 // By their bits: the two zeros differ, and a NaN, of which there is one, differs from every number.
@@ -119,65 +72,79 @@ fn differ(x: f64, y: f64) -> bool
     bits::bits_of(x) != bits::bits_of(y)
 }
 
-// 0 where no segment leaves the vertex.
-fn flag_at(flags: &[u8], k: usize) -> u8
-    ensures { result ≡ flag_at flags.now k }
-{
-    if k < flags.len() {
-        return flags[k];
+// An output as it is lent: three numbers a vertex, the closed mark, and a flag for each segment.
+#[derive(Drop)]
+pub struct Output<'a> {
+    pub numbers: &'a [f64],
+    pub closed: bool,
+    pub flags: &'a [u8],
+}
+
+impl<'a> Model for Output<'a> {
+    ghost Value = { Lent };
+
+    ghost view = { λ o. output o.numbers.now o.closed o.flags.now };
+}
+
+impl<'a> Output<'a> {
+    fn vertices(&self) -> usize
+        ensures { result ≡ length (points_of self.now) }
+    {
+        self.numbers.len() / 3
     }
-    0
-}
 
-fn fields_at(a: &[f64], a_flags: &[u8], b: &[f64], b_flags: &[u8], k: usize) -> Fields
-    requires { (k < length (vertices_of a.now)) × (k < length (vertices_of b.now)) }
-    ensures { result ≡ fields_at (vertices_of a.now) a_flags.now (vertices_of b.now) b_flags.now k }
-{
-    let v = source::vertex_at(a, k);
-    let w = source::vertex_at(b, k);
-    Fields {
-        x: differ(v.x, w.x),
-        y: differ(v.y, w.y),
-        bulge: differ(v.bulge, w.bulge),
-        flag: flag_at(a_flags, k) != flag_at(b_flags, k),
+    // 0 where no segment leaves the vertex.
+    fn flag_at(&self, k: usize) -> u8
+        ensures { result ≡ flag_at self.now.flags k }
+    {
+        if k < self.flags.len() {
+            return self.flags[k];
+        }
+        0
     }
-}
 
-// Three numbers a vertex, and a flag for each segment.
-fn is_even(numbers: &[f64], closed: bool, flags: &[u8]) -> bool
-    ensures { result ≡ is_even (output numbers.now closed flags.now) }
-{
-    let v = numbers.len() / 3;
-    source::is_whole(false, numbers.len(), 0, 0) && flags.len() == source::segment_count(v, closed)
-}
-
-fn is_many(numbers: &[f64]) -> bool
-    ensures { result ≡ is_many numbers.now }
-{
-    numbers.len() / 3 > MOST_VERTICES
-}
-
-fn shared(v: usize, w: usize) -> usize
-    ensures value { result ≡ shared v w }
-    ensures upper_bound { (result ≤ v) × (result ≤ w) }
-{
-    if v < w { v } else { w }
-}
-
-fn unmatched(v: usize, w: usize) -> usize
-    ensures value { result ≡ unmatched v w }
-    ensures upper_bound { result ≤ v + w }
-{
-    if v < w { w - v } else { v - w }
-}
-
-fn marks_differ(a_closed: bool, b_closed: bool) -> bool
-    ensures { result ≡ marks_differ a_closed b_closed }
-{
-    if a_closed {
-        return !b_closed;
+    // Three numbers a vertex, and a flag for each segment.
+    fn is_even(&self) -> bool
+        ensures { result ≡ is_even self.now }
+    {
+        let n = self.numbers.len();
+        source::is_whole(false, n, 0, 0)
+            && self.flags.len() == source::segment_count(self.vertices(), self.closed)
     }
-    b_closed
+
+    fn is_many(&self) -> bool
+        ensures { result ≡ is_many self.now.numbers }
+    {
+        self.vertices() > MOST_VERTICES
+    }
+
+    // Whether it can be compared.
+    fn check(&self) -> Result<(), Refusal>
+        ensures { result ≡ (when not (is_even self.now) give Err Refusal.Ragged else when is_many self.now.numbers give Err Refusal.TooMany else Ok tt) }
+    {
+        if !self.is_even() {
+            return Err(Refusal::Ragged);
+        }
+        if self.is_many() {
+            return Err(Refusal::TooMany);
+        }
+        Ok(())
+    }
+
+    // What differs at a vertex that both have.
+    fn fields_at(&self, other: &Output, k: usize) -> Fields
+        requires { (k < length (points_of self.now)) × (k < length (points_of other.now)) }
+        ensures { result ≡ fields_at (points_of self.now) self.now.flags (points_of other.now) other.now.flags k }
+    {
+        let v = source::vertex_at(self.numbers, k);
+        let w = source::vertex_at(other.numbers, k);
+        Fields {
+            x: differ(v.x, w.x),
+            y: differ(v.y, w.y),
+            bulge: differ(v.bulge, w.bulge),
+            flag: self.flag_at(k) != other.flag_at(k),
+        }
+    }
 }
 
 fn has_room(count: usize, numbers: usize, fields: usize) -> bool
@@ -186,25 +153,15 @@ fn has_room(count: usize, numbers: usize, fields: usize) -> bool
     count <= numbers && count <= fields
 }
 
-fn entries_for(differing: Fields) -> usize
-    ensures by_index { (k : ℕ) → result ≡ length (entries_for k differing) }
-    ensures upper_bound { result ≤ 1 }
-{
-    if differing.any() {
-        return 1;
-    }
-    0
-}
-
 // How many of the first `most` vertices are listed.
-fn count_entries(a: &[f64], a_flags: &[u8], b: &[f64], b_flags: &[u8], most: usize) -> usize
-    requires { (most ≤ length (vertices_of a.now)) × (most ≤ length (vertices_of b.now)) }
-    ensures value { result ≡ length (entries_to (vertices_of a.now) a_flags.now (vertices_of b.now) b_flags.now most) }
+fn count_entries(a: &Output, b: &Output, most: usize) -> usize
+    requires { (most ≤ length (points_of a.now)) × (most ≤ length (points_of b.now)) }
+    ensures value { result ≡ length (entries_to (points_of a.now) a.now.flags (points_of b.now) b.now.flags most) }
     ensures upper_bound { result ≤ most }
 {
     let mut count = 0;
     for k in 0..most {
-        count += entries_for(fields_at(a, a_flags, b, b_flags, k));
+        count += usize::from(a.fields_at(b, k).any());
     }
     count
 }
@@ -226,84 +183,56 @@ fn put_entry(k: u32, differing: Fields, at: usize, numbers: &mut [u32], fields: 
 }
 
 // The list of the first `most` vertices, at the start of both buffers.
-fn put_entries(
-    a: &[f64],
-    a_flags: &[u8],
-    b: &[f64],
-    b_flags: &[u8],
-    most: usize,
-    numbers: &mut [u32],
-    fields: &mut [u8],
-)
-    requires most_in_bounds { (most ≤ length (vertices_of a.now)) × (most ≤ length (vertices_of b.now)) × (most ≤ 12288) }
-    requires most_in_bounds_2 { length (entries_to (vertices_of a.now) a_flags.now (vertices_of b.now) b_flags.now most) ≤ length numbers.old }
-    requires most_in_bounds_3 { length (entries_to (vertices_of a.now) a_flags.now (vertices_of b.now) b_flags.now most) ≤ length fields.old }
-    ensures numbers_after { numbers.new ≡ at_front (map number_in (entries_to (vertices_of a.now) a_flags.now (vertices_of b.now) b_flags.now most)) numbers.old }
-    ensures fields_after { fields.new ≡ at_front (map code_in (entries_to (vertices_of a.now) a_flags.now (vertices_of b.now) b_flags.now most)) fields.old }
+fn put_entries(a: &Output, b: &Output, most: usize, numbers: &mut [u32], fields: &mut [u8])
+    requires most_in_bounds { (most ≤ length (points_of a.now)) × (most ≤ length (points_of b.now)) × (most ≤ 12288) }
+    requires most_in_bounds_2 { length (entries_to (points_of a.now) a.now.flags (points_of b.now) b.now.flags most) ≤ length numbers.old }
+    requires most_in_bounds_3 { length (entries_to (points_of a.now) a.now.flags (points_of b.now) b.now.flags most) ≤ length fields.old }
+    ensures numbers_after { numbers.new ≡ at_front (map number_in (entries_to (points_of a.now) a.now.flags (points_of b.now) b.now.flags most)) numbers.old }
+    ensures fields_after { fields.new ≡ at_front (map code_in (entries_to (points_of a.now) a.now.flags (points_of b.now) b.now.flags most)) fields.old }
 {
     let mut at = 0;
     for k in 0..most {
-        let differing = fields_at(a, a_flags, b, b_flags, k);
+        let differing = a.fields_at(b, k);
         at = put_entry(k as u32, differing, at, numbers, fields);
     }
 }
 
 // Of two outputs that can be compared.
 fn list(
-    a: &[f64],
-    a_closed: bool,
-    a_flags: &[u8],
-    b: &[f64],
-    b_closed: bool,
-    b_flags: &[u8],
+    a: &Output,
+    b: &Output,
     numbers: &mut [u32],
     fields: &mut [u8],
-) -> CompareAnswer
-    requires { (length (vertices_of a.now) ≤ 12288) × (length (vertices_of b.now) ≤ 12288) }
-    ensures { outcome result numbers.new fields.new
-        ≡ listing (output a.now a_closed a_flags.now) (output b.now b_closed b_flags.now) numbers.old fields.old }
+) -> Result<Differences, Refusal>
+    requires { (length (points_of a.now) ≤ 12288) × (length (points_of b.now) ≤ 12288) }
+    ensures { outcome result numbers.new fields.new ≡ listing a.now b.now numbers.old fields.old }
 {
-    let v = a.len() / 3;
-    let w = b.len() / 3;
-    let most = shared(v, w);
-    let count = count_entries(a, a_flags, b, b_flags, most);
+    let v = a.vertices();
+    let w = b.vertices();
+    let most = v.min(w);
+    let count = count_entries(a, b, most);
     if !has_room(count, numbers.len(), fields.len()) {
-        return CompareAnswer::Refused(Refusal::NoRoom);
+        return Err(Refusal::NoRoom);
     }
-    put_entries(a, a_flags, b, b_flags, most, numbers, fields);
-    CompareAnswer::Compared(Differences {
+    put_entries(a, b, most, numbers, fields);
+    Ok(Differences {
         listed: count as u32,
-        unmatched: unmatched(v, w) as u32,
-        marks: marks_differ(a_closed, b_closed),
+        unmatched: v.abs_diff(w) as u32,
+        marks: a.closed != b.closed,
     })
 }
 
 // Lays two outputs side by side. The list goes to the start of `numbers` and `fields`: each vertex number where
 // something differs, and what, as one number. A refusal leaves both as they were.
 pub fn compare(
-    a: &[f64],
-    a_closed: bool,
-    a_flags: &[u8],
-    b: &[f64],
-    b_closed: bool,
-    b_flags: &[u8],
+    a: &Output,
+    b: &Output,
     numbers: &mut [u32],
     fields: &mut [u8],
-) -> CompareAnswer
-    ensures { outcome result numbers.new fields.new
-        ≡ compare_of (output a.now a_closed a_flags.now) (output b.now b_closed b_flags.now) numbers.old fields.old }
+) -> Result<Differences, Refusal>
+    ensures { outcome result numbers.new fields.new ≡ compare_of a.now b.now numbers.old fields.old }
 {
-    if !is_even(a, a_closed, a_flags) {
-        return CompareAnswer::Refused(Refusal::Ragged);
-    }
-    if is_many(a) {
-        return CompareAnswer::Refused(Refusal::TooMany);
-    }
-    if !is_even(b, b_closed, b_flags) {
-        return CompareAnswer::Refused(Refusal::Ragged);
-    }
-    if is_many(b) {
-        return CompareAnswer::Refused(Refusal::TooMany);
-    }
-    list(a, a_closed, a_flags, b, b_closed, b_flags, numbers, fields)
+    a.check()?;
+    b.check()?;
+    list(a, b, numbers, fields)
 }

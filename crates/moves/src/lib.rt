@@ -51,11 +51,13 @@ impl Origin {
             Origin::Connector(source) => 2 * source.0 + 1,
         }
     }
+}
 
-    // The origin that a number in a lent buffer stands for.
-    pub fn of_code(code: u32) -> Origin
-        ensures { result ≡ origin_of code }
-    {
+// The origin that a number in a lent buffer stands for.
+impl From<u32> for Origin {
+    ghost from_gives = { λ code origin. origin ≡ origin_of code };
+
+    fn from(code: u32) -> Origin {
         let source = SourceSegment(code / 2);
         if code % 2 == 0 {
             return Origin::Span(source);
@@ -64,64 +66,44 @@ impl Origin {
     }
 }
 
-// Why a move's flag is set or clear. A walk makes no copy: that is of an offset of zero.
+// Why a move's flag is set or clear, by 02's numbers (2026-01). A walk makes no copy: that is of an offset of zero.
 #[derive(Clone, Copy)]
 pub enum Reason {
-    InOrder,
-    TurnedBack,
-    CollapsedArc,
-    Round,
-    Reversal,
-    Meeting,
-    CollapsedSide,
-    NoMeeting,
-    CandidatesMissed,
-    ZeroTangent,
-    SameDirection,
-    Copied,
-    Pointed,
+    InOrder = 1,
+    TurnedBack = 2,
+    CollapsedArc = 3,
+    Round = 4,
+    Reversal = 5,
+    Meeting = 6,
+    CollapsedSide = 7,
+    NoMeeting = 8,
+    CandidatesMissed = 9,
+    ZeroTangent = 10,
+    SameDirection = 11,
+    Copied = 12,
+    Pointed = 13,
 }
 
 impl Reason {
-    // 02's number of it (2026-01).
     pub fn number(self) -> u32
         ensures { result ≡ reason_number self }
     {
-        match self {
-            Reason::InOrder => 1,
-            Reason::TurnedBack => 2,
-            Reason::CollapsedArc => 3,
-            Reason::Round => 4,
-            Reason::Reversal => 5,
-            Reason::Meeting => 6,
-            Reason::CollapsedSide => 7,
-            Reason::NoMeeting => 8,
-            Reason::CandidatesMissed => 9,
-            Reason::ZeroTangent => 10,
-            Reason::SameDirection => 11,
-            Reason::Copied => 12,
-            Reason::Pointed => 13,
-        }
+        self as u32
     }
 
     pub fn is_invalid(self) -> bool
         ensures { result ≡ is_invalid self }
     {
-        match self {
-            Reason::InOrder => false,
-            Reason::TurnedBack => true,
-            Reason::CollapsedArc => true,
-            Reason::Round => false,
-            Reason::Reversal => false,
-            Reason::Meeting => false,
-            Reason::CollapsedSide => true,
-            Reason::NoMeeting => true,
-            Reason::CandidatesMissed => true,
-            Reason::ZeroTangent => true,
-            Reason::SameDirection => true,
-            Reason::Copied => false,
-            Reason::Pointed => false,
-        }
+        matches!(
+            self,
+            Reason::TurnedBack
+                | Reason::CollapsedArc
+                | Reason::CollapsedSide
+                | Reason::NoMeeting
+                | Reason::CandidatesMissed
+                | Reason::ZeroTangent
+                | Reason::SameDirection
+        )
     }
 
     // Of a segment's span between two parameters.
@@ -168,6 +150,7 @@ pub struct Move {
 impl Move {
     // A segment's span between two parameters, straight as yet: a bulge takes longer than all else, and
     // may be made later.
+    #[tactic(auto, unfolding(crate::specs::Made::span_move))]
     pub fn straight_span(
         source: SourceSegment,
         segment: CarriedSeg,
@@ -188,6 +171,7 @@ impl Move {
     }
 
     // The connector of the join after a segment.
+    #[tactic(auto, unfolding(crate::specs::Made::connector_move))]
     pub fn connector(source: SourceSegment, boundary: JoinBoundary) -> Move
         ensures { result ≡ connector_move source.0 boundary }
     {
@@ -207,13 +191,10 @@ impl Move {
     pub fn to_tip(self, tip: Vector2) -> Move
         ensures { result ≡ tip_before self tip }
     {
-        let reason = self.reason;
-        let origin = self.origin;
         Move {
             end: tip,
             bulge: 0.0,
-            reason,
-            origin,
+            ..self
         }
     }
 
@@ -221,15 +202,7 @@ impl Move {
     pub fn bulging(self, bulge: f64) -> Move
         ensures { result ≡ with_bulge bulge self }
     {
-        let end = self.end;
-        let reason = self.reason;
-        let origin = self.origin;
-        Move {
-            end,
-            bulge,
-            reason,
-            origin,
-        }
+        Move { bulge, ..self }
     }
 }
 
@@ -284,6 +257,7 @@ impl Pen {
 
     // The decision on one move, before anything is counted: it is dropped where it ends within eps of
     // the last kept point.
+    #[tactic(auto, unfolding(crate::specs::InnerSteps::step_of))]
     pub fn step(self, m: Move, eps: f64) -> Stepped
         requires { self.number.0 + 1 < 2 ^ 32 }
         ensures { result ≡ step_of self m eps }

@@ -206,7 +206,7 @@ fn put_origin_lines(count: usize, origins: &[u32], out: &mut [u8], at: usize) ->
 {
     let mut end = at;
     for i in 0..count {
-        end = put_origin(Origin::of_code(origins[i]), out, end);
+        end = put_origin(Origin::from(origins[i]), out, end);
     }
     end
 }

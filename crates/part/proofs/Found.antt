@@ -2,56 +2,50 @@
 use mathlib.Core.Path.{◌≡◌, refl, sym, ap, ◌∙◌, subst}
 use mathlib.Core.List.{List}
 use mathlib.Core.Bool.{true, false, not}
-use Prim.Native.Nat.{ℕ, ◌+◌, ◌-◌, ◌≤◌, ◌<◌}
+use Prim.Native.Nat.{ℕ, ◌+◌, ◌≤◌, ◌<◌, min}
 use native.Mathlib.Omega.{arith}
-use borrow.Author.Tests.{ltb-true, lt-ltb, le-ltb, eq-eqb, ne_eqb, eqb-true}
+use borrow.Author.Tests.{ltb-true, ltb-false, lt-ltb, le-ltb, eq-eqb, ne_eqb, eqb-true}
 use lib.Dec.{eqb, ltb}
 use lib.ListN.{length, take, drop, length-take, length-drop}
 use lib.Seq.{take_all, take-length}
+use Rattle.std.specs.Prelude.{Ok, Err}
 use Rattle.floats.specs.Choice.{when◌give◌else◌}
 use Rattle.floats.proofs.Choice.{yes, no}
 use Rattle.refusals.specs.declared.Refusal.TheVariants.{Ragged, NoSuchSourceSegment}
 use Rattle.refusals.proofs.First.{by_test}
 use Rattle.moves.specs.declared.Origin.{Origin}
 use Rattle.part.specs.declared.Bounds.{Bounds}
-use Rattle.part.specs.declared.PartAnswer.TheVariants.{Found, Refused}
 use Rattle.part.specs.Part.{front, part_at, empty, part_of, part_answer, bounds_of}
 use Rattle.part.proofs.Front.{front-most}
 
--- ---- from one place to another
+-- ---- as the code looks
 
 -- the choice that `part_of` makes
-abbrev pub chosen : ℕ → ℕ → Bounds
-chosen start count = when eqb count 0 give empty else part_at start count
-
-pub between : (s : ℕ) (os : List Origin) (start end : ℕ) → start ≡ 0 + front false s os → end ≡ start + front true s (drop start os) → chosen start (end - start) ≡ part_of s os
+pub as-part : (s : ℕ) (os : List Origin) {start count : ℕ} → start ≡ front false s os → count ≡ front true s (drop start os) → (when eqb count 0 give empty else part_at start count) ≡ part_of s os
 unfolding part_of
-between s os start end p q =
-    let first : start ≡ front false s os = omega arith in
-    let count : end - start ≡ front true s (drop start os) = omega arith in
-    rw (count, first)
+as-part s os p q = rw (q, p)
 
 -- no more is looked at than there is
-pub looked : (os : List Origin) (most n : ℕ) → most ≡ when ltb n 0xffff_ffff give n else 0xffff_ffff → n ≡ length os → take most os ≡ take 0xffff_ffff os
+pub looked : (os : List Origin) (most n : ℕ) → most ≡ min n 0xffff_ffff → n ≡ length os → take most os ≡ take 0xffff_ffff os
 looked os most n p q =
     by_test (ltb n 0xffff_ffff)
-    (λ (t : ltb n 0xffff_ffff ≡ true). let e : most ≡ length os = p ∙ sym (yes _ _ _ t refl) ∙ q in rw e (take-length os ∙ sym (take_all 0xffff_ffff os (omega (arith, ltb-true n 0xffff_ffff t)))))
-    (λ (t : ltb n 0xffff_ffff ≡ false). let e : most ≡ 0xffff_ffff = p ∙ sym (no _ _ _ t refl) in rw e)
+    (λ (t : ltb n 0xffff_ffff ≡ true). let h = ltb-true n 0xffff_ffff t in let e : most ≡ length os = omega arith in rw e (take-length os ∙ sym (take_all 0xffff_ffff os (omega arith))))
+    (λ (t : ltb n 0xffff_ffff ≡ false). let h = ltb-false n 0xffff_ffff t in let e : most ≡ 0xffff_ffff = omega arith in rw e)
 
 -- ---- the answers
 
 module _ (n flags : ℕ) (os : List Origin) (s : ℕ) where
-  pub ragged : (flags ≡ length os → ⊥) → Refused Ragged ≡ part_answer n flags os s
+  pub ragged : (flags ≡ length os → ⊥) → Err Ragged ≡ part_answer n flags os s
   unfolding part_answer
   ragged h = yes _ _ _ (ap not (ne_eqb _ _ h)) refl
 
-  pub none_such : flags ≡ length os → n ≤ s → Refused NoSuchSourceSegment ≡ part_answer n flags os s
+  pub none_such : flags ≡ length os → n ≤ s → Err NoSuchSourceSegment ≡ part_answer n flags os s
   unfolding part_answer
   none_such e h = no _ _ _ (ap not (eq-eqb _ _ e)) (yes _ _ _ (ap not (le-ltb s n h)) refl)
 
-  pub found : flags ≡ length os → s < n → {part : Bounds} → part ≡ part_of s (take 0xffff_ffff os) → Found part ≡ part_answer n flags os s
+  pub found : flags ≡ length os → s < n → {part : Bounds} → part ≡ part_of s (take 0xffff_ffff os) → Ok part ≡ part_answer n flags os s
   unfolding part_answer
-  found e h p = no _ _ _ (ap not (eq-eqb _ _ e)) (no _ _ _ (ap not (lt-ltb s n h)) (ap Found p))
+  found e h p = no _ _ _ (ap not (eq-eqb _ _ e)) (no _ _ _ (ap not (lt-ltb s n h)) (ap Ok p))
 
 -- ---- within
 

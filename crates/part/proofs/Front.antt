@@ -1,13 +1,16 @@
 -- How far a row of origins goes on naming a segment, or not: place by place, as the loop counts it, and what the code reads there. Assumes nothing.
-use mathlib.Core.Path.{◌≡◌, refl, sym, ap, ◌∙◌, subst}
+use mathlib.Core.Path.{◌≡◌, refl, sym, ap, subst}
 use mathlib.Core.List.{List, [], ◌∷◌}
-use mathlib.Core.Bool.{Bool, true, false, not}
-use Prim.Native.Nat.{ℕ, suc, ◌+◌, ◌/◌, ◌≤◌, ◌<◌}
-use native.Mathlib.Numerals.{add-one}
+use mathlib.Core.Bool.{Bool, true, false, not, cond}
+use Prim.Native.Nat.{ℕ, suc, ◌+◌, ◌/◌, ◌≤◌}
 use native.Mathlib.Omega.{arith}
+use borrow.Author.Tests.{ltb-false}
 use lib.Dec.{eqb}
-use lib.ListN.{length, take, drop, get_or, drop_of_length-le, get_or-map}
-use lib.Seq.{drop-cons, get_or-take, length-take-le}
+use Rattle.std.specs.Prelude.{nat_lt, Some, None}
+use Rattle.std.specs.Option.{unwrap_or}
+use Rattle.std.specs.List.{position, position_or_len}
+use Rattle.std.proofs.lemmas.List.Recursion.{is_position_or_len}
+use lib.ListN.{length}
 use Rattle.moves.specs.declared.Origin.{Origin}
 use Rattle.moves.specs.Origins.{origin_of, origins_in}
 use Rattle.moves.proofs.Origins.{origins-length, segment-half}
@@ -31,22 +34,34 @@ module _ (b : Bool) (s : ℕ) where
       by true h i = rw (front_on o os h) (omega arith)
       by false h i = rw (front-stop o os h) (omega arith)
 
-  -- ---- the loop at place i of a row
+  -- ---- as the code counts it
 
-  module _ (os : List Origin) (i : ℕ) where
-    pub passes : (d : Origin) → i < length os → naming b s (get_or os i d) ≡ true → i + 1 + front b s (drop (i + 1) os) ≡ i + front b s (drop i os)
-    passes d l h =
-        let e : front b s (drop i os) ≡ suc (front b s (drop (suc i) os)) = ap (front b s) (drop-cons os i d l) ∙ front_on (get_or os i d) (drop (suc i) os) h in
-        rw (add-one i) (omega arith)
+  abbrev pub other : ℕ → Bool
+  other c = not (naming b s (origin_of c))
 
-    pub stops : (d : Origin) → i < length os → naming b s (get_or os i d) ≡ false → i ≡ i + front b s (drop i os)
-    stops d l h =
-        let e : front b s (drop i os) ≡ 0 = ap (front b s) (drop-cons os i d l) ∙ front-stop (get_or os i d) (drop (suc i) os) h in
-        omega arith
+  none : front b s (origins_in []) ≡ 0
+  unfolding front origins_in
+  none = refl
 
-    pub ends : length os ≤ i → i ≡ i + front b s (drop i os)
-    unfolding front
-    ends l = rw (drop_of_length-le os l) (omega arith)
+  next : (c : ℕ) (cs : List ℕ) → front b s (origins_in (c ∷ cs)) ≡ cond (other c) 0 (1 + front b s (origins_in cs))
+  unfolding origins_in
+  next c cs = by (naming b s (origin_of c)) refl
+    where
+      by : (t : Bool) → naming b s (origin_of c) ≡ t → front b s (origin_of c ∷ origins_in cs) ≡ cond (not t) 0 (1 + front b s (origins_in cs))
+      by true h = rw (front_on (origin_of c) (origins_in cs) h) (omega arith)
+      by false h = front-stop (origin_of c) (origins_in cs) h
+
+  in_front : (cs : List ℕ) → front b s (origins_in cs) ≡ position_or_len other cs
+  in_front = is_position_or_len (λ cs. front b s (origins_in cs)) other none next
+
+  pub front-first : (cs : List ℕ) → unwrap_or (position other cs) (length cs) ≡ front b s (origins_in cs)
+  front-first cs = by (nat_lt (position_or_len other cs) (length cs)) refl
+    where
+      by : (t : Bool) → nat_lt (position_or_len other cs) (length cs) ≡ t → unwrap_or (cond t (Some (position_or_len other cs)) None) (length cs) ≡ front b s (origins_in cs)
+      by true h = sym (in_front cs)
+      by false h =
+          let l = ltb-false (position_or_len other cs) (length cs) h in
+          omega (arith, in_front cs, front-most (origins_in cs), origins-length cs)
 
 -- ---- what the code reads
 
@@ -61,11 +76,3 @@ module _ (s c : ℕ) where
   unfolding naming
   unnamed true h = let z : true ≡ false = h in cc
   unnamed false h = ap (λ (k : ℕ). not (eqb k s)) (sym (segment-half c))
-
-module _ (cs : List ℕ) (most : ℕ) where
-  pub looked_length : most ≤ length cs → length (take most (origins_in cs)) ≡ most
-  looked_length l = length-take-le most (origins_in cs) (rw (origins-length cs) l)
-
-  pub looked_at : (i : ℕ) → i < most → get_or (take most (origins_in cs)) i (origin_of 0) ≡ origin_of (get_or cs i 0)
-  unfolding origins_in
-  looked_at i l = get_or-take most (origins_in cs) i (origin_of 0) l ∙ get_or-map origin_of cs i 0

@@ -3,11 +3,12 @@
 use mathlib.Core.Path.{◌≡◌, refl}
 use mathlib.Core.List.{List, [], ◌∷◌, map}
 use Prim.Native.Nat.{ℕ}
+use Rattle.std.specs.Prelude.{Result, Ok, Err}
 use Rattle.floats.specs.Choice.{when◌give◌else◌}
+use Rattle.refusals.specs.declared.Refusal.{Refusal}
 use Rattle.refusals.specs.declared.Refusal.TheVariants.{Ragged, NoSuchSourceSegment}
 use Rattle.moves.specs.Origins.{origin_of, origins_in}
-use Rattle.part.specs.declared.PartAnswer.{PartAnswer}
-use Rattle.part.specs.declared.PartAnswer.TheVariants.{Found, Refused}
+use Rattle.part.specs.declared.Bounds.{Bounds}
 use Rattle.part.specs.Part.{naming, front, part_at, empty, part_of, part_answer}
 
 unfoldable sought : Unit {0}
@@ -20,12 +21,12 @@ pub record Row : Type 0 where
   pub flags : ℕ
   pub codes : List ℕ
   pub source : ℕ
-  pub answer : PartAnswer
+  pub answer : Result Bounds Refusal
 
-abbrev pub answer_of : Row → PartAnswer
+abbrev pub answer_of : Row → Result Bounds Refusal
 answer_of r = part_answer r.n r.flags (origins_in r.codes) r.source
 
-abbrev pub row : ℕ → ℕ → List ℕ → ℕ → PartAnswer → Row
+abbrev pub row : ℕ → ℕ → List ℕ → ℕ → Result Bounds Refusal → Row
 row n flags codes source answer = record { n = n; flags = flags; codes = codes; source = source; answer = answer }
 
 -- span 0 and its connector, span 1, the connector of segment 3
@@ -49,22 +50,22 @@ padded = 2 ∷ 4 ∷ 0 ∷ 0 ∷ []
 
 abbrev pub rows : List Row
 rows =
-    row 4 4 four 0 (Found (part_at 0 2))
-    ∷ row 4 4 four 3 (Found (part_at 3 1))
-    ∷ row 4 4 four 2 (Found empty)
-    ∷ row 3 6 broken 0 (Found (part_at 1 2))
-    ∷ row 3 6 broken 1 (Found (part_at 0 1))
-    ∷ row 4 3 four 0 (Refused Ragged)
-    ∷ row 4 3 four 4 (Refused Ragged)
-    ∷ row 4 4 four 4 (Refused NoSuchSourceSegment)
-    ∷ row 0 0 [] 0 (Refused NoSuchSourceSegment)
-    ∷ row 1 0 [] 0 (Found empty)
-    ∷ row 0xffff_ffff 3 high 0x7fff_ffff (Found (part_at 1 2))
-    ∷ row 0xffff_ffff 3 high 0x8000_0000 (Found empty)
-    ∷ row 0xffff_ffff 3 high 0xffff_fffe (Found empty)
-    ∷ row 0xffff_ffff 3 high 0xffff_ffff (Refused NoSuchSourceSegment)
-    ∷ row 3 2 own 0 (Found empty)
-    ∷ row 3 4 padded 0 (Found (part_at 2 2))
+    row 4 4 four 0 (Ok (part_at 0 2))
+    ∷ row 4 4 four 3 (Ok (part_at 3 1))
+    ∷ row 4 4 four 2 (Ok empty)
+    ∷ row 3 6 broken 0 (Ok (part_at 1 2))
+    ∷ row 3 6 broken 1 (Ok (part_at 0 1))
+    ∷ row 4 3 four 0 (Err Ragged)
+    ∷ row 4 3 four 4 (Err Ragged)
+    ∷ row 4 4 four 4 (Err NoSuchSourceSegment)
+    ∷ row 0 0 [] 0 (Err NoSuchSourceSegment)
+    ∷ row 1 0 [] 0 (Ok empty)
+    ∷ row 0xffff_ffff 3 high 0x7fff_ffff (Ok (part_at 1 2))
+    ∷ row 0xffff_ffff 3 high 0x8000_0000 (Ok empty)
+    ∷ row 0xffff_ffff 3 high 0xffff_fffe (Ok empty)
+    ∷ row 0xffff_ffff 3 high 0xffff_ffff (Err NoSuchSourceSegment)
+    ∷ row 3 2 own 0 (Ok empty)
+    ∷ row 3 4 padded 0 (Ok (part_at 2 2))
     ∷ []
 
 pub settled : map answer_of rows ≡ map (λ (r : Row). r.answer) rows

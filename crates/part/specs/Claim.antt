@@ -1,10 +1,11 @@
 -- What 02's 2026-09 says of parts: over any origins (`First`; shown in `proofs/Row.antt`), and after a done job, held to the job's own answer and buffers (`Claim`; shown of every
 -- done job and every number in `proofs/Claim.antt`). Definitions only.
-use Rattle.std.specs.Prelude.{◌≡◌, ◌↔◌, ℕ, ◌+◌, ◌≤◌, ◌<◌, T, length, take}
+use Rattle.std.specs.Prelude.{◌≡◌, ◌↔◌, ℕ, ◌+◌, ◌≤◌, ◌<◌, T, length, take, Result, Ok, Err}
 use mathlib.Core.List.{List, map, Memᴰ}
 use Rattle.std.specs.Float.Ieee.{eq}
 use Rattle.floats.specs.Binary64.{zero}
 use Rattle.source.specs.Source.{segments_of}
+use Rattle.refusals.specs.declared.Refusal.{Refusal}
 use Rattle.refusals.specs.declared.Refusal.TheVariants.{NoSuchSourceSegment}
 use Rattle.moves.specs.declared.Origin.{Origin}
 use Rattle.moves.specs.Made.{segment_of}
@@ -15,8 +16,6 @@ use Rattle.walk.specs.Branches.{Is}
 use Rattle.job.specs.declared.RawOffsetAnswer.TheVariants as Job
 use Rattle.job.specs.Rows.{Job, outcome, count}
 use Rattle.part.specs.declared.Bounds.{Bounds}
-use Rattle.part.specs.declared.PartAnswer.{PartAnswer}
-use Rattle.part.specs.declared.PartAnswer.TheVariants.{Found, Refused}
 use Rattle.part.specs.Part.{part_at, part_of, part_answer}
 
 -- ---- over any origins
@@ -47,7 +46,7 @@ abbrev pub own_origins : Job → Drawing → List Origin
 own_origins j d = take (segment_count d) (outcome j).buffers.origins
 
 -- the answer over these, of segment s
-abbrev pub asked : Job → Drawing → ℕ → PartAnswer
+abbrev pub asked : Job → Drawing → ℕ → Result Bounds Refusal
 asked j d s = part_answer (sources j) (length (own_flags j d)) (own_origins j d) s
 
 pub record Claim (j : Job) (s : ℕ) : Type 0 where
@@ -62,8 +61,8 @@ pub record Claim (j : Job) (s : ℕ) : Type 0 where
   pub never_falls : NeverFalling 0 (map segment_of drawing.origins)
   pub below : (o : Origin) → Memᴰ o drawing.origins → segment_of o < sources j
   -- No. 13 where the source has no segment s; else a part is found
-  pub none_such : sources j ≤ s → asked j drawing s ≡ Refused NoSuchSourceSegment
-  pub found : s < sources j → asked j drawing s ≡ Found (part_of s drawing.origins)
+  pub none_such : sources j ≤ s → asked j drawing s ≡ Err NoSuchSourceSegment
+  pub found : s < sources j → asked j drawing s ≡ Ok (part_of s drawing.origins)
   -- it is all that segment s became: the output segments that name s are those in the part, and so there is no other part
   pub all : (i : ℕ) (o : Origin) → Is drawing.origins i o → (segment_of o ≡ s) ↔ In (part_of s drawing.origins) i
   -- and it has no place past them

@@ -1,13 +1,12 @@
 -- Which part of an output belongs to a source segment (02's 2026-09). Definitions only.
-use Rattle.std.specs.Prelude.{ℕ, suc, ◌+◌, List, [], ◌∷◌, Bool, true, false, not, eqb, ltb, length, take, drop}
+use Rattle.std.specs.Prelude.{ℕ, suc, ◌+◌, List, [], ◌∷◌, Bool, true, false, not, eqb, ltb, length, take, drop, Result, Ok, Err}
+use Rattle.std.specs.Result.{result_unwrap_or}
 use Rattle.floats.specs.Choice.{when◌give◌else◌}
+use Rattle.refusals.specs.declared.Refusal.{Refusal}
 use Rattle.refusals.specs.declared.Refusal.TheVariants.{Ragged, NoSuchSourceSegment}
-use Rattle.refusals.specs.Table.{number_of, place_of}
 use Rattle.moves.specs.declared.Origin.{Origin}
 use Rattle.moves.specs.Made.{segment_of}
 use Rattle.part.specs.declared.Bounds.{Bounds}
-use Rattle.part.specs.declared.PartAnswer.{PartAnswer}
-use Rattle.part.specs.declared.PartAnswer.TheVariants.{Found, Refused}
 
 -- an origin names segment s, as its span or as the connector after it; or, where b is false, it does not
 unfoldable pub naming : Bool → ℕ → Origin → Bool
@@ -35,25 +34,16 @@ part_of s os =
 
 -- The answer for an output of a source of n segments, with so many flags and these origins. An output segment's number has 32 bits: origins from place 2³² − 1 on
 -- are not looked at.
-unfoldable pub part_answer : ℕ → ℕ → List Origin → ℕ → PartAnswer
+unfoldable pub part_answer : ℕ → ℕ → List Origin → ℕ → Result Bounds Refusal
 part_answer n flags os s =
-    when not (eqb flags (length os)) give Refused Ragged else
-    when not (ltb s n) give Refused NoSuchSourceSegment else
-    Found (part_of s (take 0xffff_ffff os))
+    when not (eqb flags (length os)) give Err Ragged else
+    when not (ltb s n) give Err NoSuchSourceSegment else
+    Ok (part_of s (take 0xffff_ffff os))
 
 -- ---- as callers get it
 
-abbrev pub bounds_of : PartAnswer → Bounds
-bounds_of (Found part) = part
-bounds_of (Refused r) = empty
-
-abbrev pub number : PartAnswer → ℕ
-number (Found part) = 0
-number (Refused r) = number_of r
-
-abbrev pub place : PartAnswer → ℕ
-place (Found part) = 0
-place (Refused r) = place_of r
+abbrev pub bounds_of : Result Bounds Refusal → Bounds
+bounds_of answer = result_unwrap_or answer empty
 
 -- the part that an answer gives, empty where it is refused
 abbrev pub part_for : ℕ → ℕ → List Origin → ℕ → Bounds

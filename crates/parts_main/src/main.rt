@@ -4,6 +4,8 @@
 // it stands. The stored output comes from the search in Rust (`oracle`, `samples`).
 #![tactic(auto)]
 
+use part::Bounds;
+use refusals::Answer;
 use segments::SourceSegment;
 use words::{least, print, read_word};
 
@@ -44,11 +46,10 @@ fn number_flags(flags: &mut [u8]) {
 
 fn tell(n: u32, flags: &[u8], origins: &[u32], source: SourceSegment) {
     let found = part::find(n, flags.len(), origins, source);
-    let bounds = found.bounds();
-    let start = bounds.start;
+    let bounds = found.unwrap_or(Bounds::empty());
     let _written = io::print_decimal(1, found.number() as u64);
     print_next(found.place());
-    print_next(start.0);
+    print_next(bounds.start.0);
     print_next(bounds.count);
     print_flags(part::part(n, flags, origins, source));
     print(b"\n");

@@ -260,7 +260,7 @@ fn put_place(
 {
     let v = source::vertex_at(vertices, i);
     if i < answer.segments as usize {
-        return put_segment(v, flags[i], Origin::of_code(origins[i]), out, at);
+        return put_segment(v, flags[i], Origin::from(origins[i]), out, at);
     }
     if i < answer.vertices as usize {
         return put_last(v, out, at);

@@ -4,15 +4,15 @@ use mathlib.Core.List.{List, [], ◌∷◌}
 use mathlib.Core.Bool.{Bool, true, false}
 use Prim.Native.Nat.{ℕ, zero, suc, ◌≤◌}
 use native.Mathlib.Omega.{arith}
-use borrow.Author.Tests.{not-false, ltb-false}
-use lib.Dec.{ltb}
+use borrow.Author.Tests.{not-false}
 use lib.ListN.{length, length-append, length-replicate}
+use Rattle.std.specs.Prelude.{Result}
 use Rattle.floats.specs.Choice.{when◌give◌else◌}
+use Rattle.refusals.specs.declared.Refusal.{Refusal}
 use Rattle.segments.specs.declared.PlineVertex.{PlineVertex}
 use Rattle.compare.specs.Compare.{Output, Outcome, outcome, points_of, any_of, fields_at, entries_for, entries_to, shared, list_of, listing, compare_of, differences_of}
 use Rattle.compare.specs.declared.Fields.{Fields}
 use Rattle.compare.specs.declared.Differences.{Differences}
-use Rattle.compare.specs.declared.CompareAnswer.{CompareAnswer}
 use Rattle.compare.proofs.Answers.{fits}
 use Rattle.same_reply.specs.Same.{differences_text, outcome_text, blank}
 
@@ -50,7 +50,7 @@ entries_most vs fs ws gs (suc k) =
 
 shared-most : (v w : ℕ) → shared v w ≤ v
 unfolding shared
-shared-most v w = by_test (λ n. n ≤ v) (ltb v w) (λ _. omega arith) (λ h. omega (arith, ltb-false v w h))
+shared-most v w = omega arith
 
 pub listed-most : (a b : Output) → length (list_of a b) ≤ length (points_of a)
 unfolding list_of
@@ -60,7 +60,7 @@ listed-most a b =
 
 -- ---- as the code compares
 
-module _ (a b : Output) {answer : CompareAnswer} {numbers fields : List ℕ} (made : outcome answer numbers fields ≡ compare_of a b blank blank) {d : Differences} (told : d ≡ differences_of answer) where
+module _ (a b : Output) {answer : Result Differences Refusal} {numbers fields : List ℕ} (made : outcome answer numbers fields ≡ compare_of a b blank blank) {d : Differences} (told : d ≡ differences_of answer) where
   pub few-listed : d.listed ≤ 12288
   few-listed =
       let z = length-replicate {A = ℕ} 12288 0 in

@@ -11,7 +11,8 @@ use Rattle.floats.proofs.Choice.{both_pass}
 use Rattle.words.specs.Words.{big_endian}
 use Rattle.source.specs.Source.{segments_of}
 use Rattle.packed.proofs.Bytes.{cut_by_lem}
-use Rattle.compare.specs.Compare.{points_of, is_even, is_many, has_room, list_of, compare_of, number}
+use Rattle.refusals.specs.Table.{number}
+use Rattle.compare.specs.Compare.{points_of, is_even, is_many, has_room, list_of, compare_of}
 use Rattle.compare.proofs.Answers.{listed, both-good}
 use Rattle.same_reply.specs.Read.{count_of, closed_of, lines_from, read_of, text_in, same, is_text}
 use Rattle.same_reply.specs.Same.{blank, first_in, second_in, pair_text, same_reply_of}

@@ -18,6 +18,7 @@ ghost use Rattle.same_reply.specs.Read.{count_of, read_of, same, is_text};
 ghost use Rattle.same_reply.specs.Same.{outcome_text, blank, pair_text, same_reply_of};
 ghost use Rattle.same_reply.specs.InnerSteps.{Kept, against_text};
 
+use compare::{Differences, Output};
 use read::Head;
 use refusals::Refusal;
 
@@ -193,17 +194,19 @@ fn put_compared(
 {
     let mut numbers = [0u32; VERTICES];
     let mut fields = [0u8; VERTICES];
-    let answer = compare::compare(
-        a,
-        a_closed,
-        a_flags,
-        b,
-        b_closed,
-        b_flags,
-        &mut numbers,
-        &mut fields,
-    );
-    text::put_differences(answer.differences(), &numbers, &fields, text)
+    let first = Output {
+        numbers: a,
+        closed: a_closed,
+        flags: a_flags,
+    };
+    let second = Output {
+        numbers: b,
+        closed: b_closed,
+        flags: b_flags,
+    };
+    let answer = compare::compare(&first, &second, &mut numbers, &mut fields);
+    let found = answer.unwrap_or(Differences::none());
+    text::put_differences(found, &numbers, &fields, text)
 }
 
 // What is told of bytes that are not the texts of two outputs.

@@ -14,6 +14,7 @@ use borrow.Author.Tests.{eq-eqb, ne_eqb}
 use lib.Dec.{eqb, eqb-suc-zero}
 use lib.ListN.{length, get_or}
 use lib.Ieee.{Float}
+use Rattle.std.specs.Prelude.{Result, Err}
 use Rattle.floats.specs.Choice.{when◌give◌else◌, ◌and◌}
 use Rattle.vectors.specs.declared.Vector2.{Vector2}
 use Rattle.segments.specs.declared.PlineVertex.{PlineVertex}
@@ -46,14 +47,13 @@ use Rattle.walk.proofs.Unmet.{never_one}
 use Rattle.sheet.proofs.Stored.{swap, and-true}
 use Rattle.sheet.proofs.Whole.{finite-snoc, lone_is}
 use Rattle.why.specs.declared.Telling.{Telling}
-use Rattle.why.specs.declared.WhyAnswer.{WhyAnswer}
-use Rattle.why.specs.declared.WhyAnswer.TheVariants.{Refused}
 use Rattle.why.specs.Why.{telling_of, told_at, walk_answer}
 use Rattle.why.specs.InnerSteps.{telling_in, told_if, answers_by, finitely, Noted, note_of, notes_of, Asked, noted_of, standing_asked, entry_after, asked_turn, asks, finish_of, finish_open, last_answer, closing_answer, drawn_answer}
+use Rattle.refusals.specs.declared.Refusal.{Refusal}
 
 -- ---- one row of strokes after another
 
-answers_append : (f : Stroke → Telling) (k : ℕ) (ss ts : List Stroke) (before : WhyAnswer) → answers_by f k (ss ++ ts) before ≡ answers_by f k ts (answers_by f k ss before)
+answers_append : (f : Stroke → Telling) (k : ℕ) (ss ts : List Stroke) (before : Result Telling Refusal) → answers_by f k (ss ++ ts) before ≡ answers_by f k ts (answers_by f k ss before)
 unfolding answers_by
 answers_append f k [] ts before = refl
 answers_append f k (s ∷ ss) ts before = answers_append f k ss ts (told_if f k s before)
@@ -75,30 +75,30 @@ stroke_at n p m = stroke_of (record { last = p; number = record { 0 = n } }) m
 
 module _ (f : Stroke → Telling) (k : ℕ) where
   -- strokes with other numbers
-  other-number : (s : Stroke) (before : WhyAnswer) → (s.number.0 ≡ k → ⊥) → told_if f k s before ≡ before
+  other-number : (s : Stroke) (before : Result Telling Refusal) → (s.number.0 ≡ k → ⊥) → told_if f k s before ≡ before
   unfolding told_if when◌give◌else◌
   other-number s before h = rw (ne_eqb s.number.0 k h)
 
-  strokes-after : (n : ℕ) (p : Vector2) (ks : List Move) (before : WhyAnswer) → k < n → answers_by f k (strokes n p ks) before ≡ before
+  strokes-after : (n : ℕ) (p : Vector2) (ks : List Move) (before : Result Telling Refusal) → k < n → answers_by f k (strokes n p ks) before ≡ before
   unfolding answers_by strokes
   strokes-after n p [] before l = refl
   strokes-after n p (m ∷ ks) before l = strokes-after (suc n) m.end ks _ (omega arith) ∙ other-number (stroke_at n p m) before (λ (h : n ≡ k). omega arith)
 
 module _ (starts ends : List Edge) where
-  strokes-told : (n : ℕ) (p : Vector2) (ks : List Move) (j : ℕ) → answers_by (rows_tell starts ends) (n + j) (strokes n p ks) (Refused NoSuchSegment) ≡ told_at starts ends ks j
+  strokes-told : (n : ℕ) (p : Vector2) (ks : List Move) (j : ℕ) → answers_by (rows_tell starts ends) (n + j) (strokes n p ks) (Err NoSuchSegment) ≡ told_at starts ends ks j
   unfolding answers_by strokes told_at
   strokes-told n p [] j = refl
   strokes-told n p (m ∷ ks) zero =
       strokes-after (rows_tell starts ends) (n + 0) (suc n) m.end ks _ (omega arith) ∙ (unfold told_if when◌give◌else◌ in rw (eq-eqb n (n + 0) (omega arith)))
   strokes-told n p (m ∷ ks) (suc j) =
       ap (answers_by (rows_tell starts ends) (n + suc j) (strokes (suc n) m.end ks))
-      (other-number (rows_tell starts ends) (n + suc j) (stroke_at n p m) (Refused NoSuchSegment) (λ (h : n ≡ n + suc j). omega arith))
-      ∙ ap (λ (i : ℕ). answers_by (rows_tell starts ends) i (strokes (suc n) m.end ks) (Refused NoSuchSegment)) (add-suc n j ∙ sym (suc-add n j))
+      (other-number (rows_tell starts ends) (n + suc j) (stroke_at n p m) (Err NoSuchSegment) (λ (h : n ≡ n + suc j). omega arith))
+      ∙ ap (λ (i : ℕ). answers_by (rows_tell starts ends) i (strokes (suc n) m.end ks) (Err NoSuchSegment)) (add-suc n j ∙ sym (suc-add n j))
       ∙ strokes-told (suc n) m.end ks j
 
   -- from the first number on
-  all_told : (p : Vector2) (ks : List Move) (k : ℕ) → answers_by (rows_tell starts ends) k (strokes 0 p ks) (Refused NoSuchSegment) ≡ told_at starts ends ks k
-  all_told p ks k = ap (λ (n : ℕ). answers_by (rows_tell starts ends) n (strokes 0 p ks) (Refused NoSuchSegment)) (sym (zero-add k)) ∙ strokes-told 0 p ks k
+  all_told : (p : Vector2) (ks : List Move) (k : ℕ) → answers_by (rows_tell starts ends) k (strokes 0 p ks) (Err NoSuchSegment) ≡ told_at starts ends ks k
+  all_told p ks k = ap (λ (n : ℕ). answers_by (rows_tell starts ends) n (strokes 0 p ks) (Err NoSuchSegment)) (sym (zero-add k)) ∙ strokes-told 0 p ks k
 
 strokes-finite : (n : ℕ) (p : Vector2) (ks : List Move) (before : Bool) → finitely (strokes n p ks) before ≡ (all_finite (corners p ks) and before)
 unfolding finitely strokes corners all_finite
@@ -116,7 +116,7 @@ record Rows (starts ends : List Edge) (i : ℕ) (s e : Edge) : Type 0 where
   pub end : get_or ends i whole_end ≡ e
 
 -- what is drawn of a step is told alike if its stroke is
-told_alike : (f g : Stroke → Telling) (k n : ℕ) (st : Stepped) (before : WhyAnswer) → f st.stroke ≡ g st.stroke
+told_alike : (f g : Stroke → Telling) (k n : ℕ) (st : Stepped) (before : Result Telling Refusal) → f st.stroke ≡ g st.stroke
     → answers_by f k (drawn_by n st) before ≡ answers_by g k (drawn_by n st) before
 unfolding drawn_by when◌give◌else◌ answers_by told_if
 told_alike f g k n st before h = by (eqb n 0 and st.kept)
@@ -168,7 +168,7 @@ led-noted f k n (m ∷ ms) ε before =
     let on = led-noted f k n ms ε (note_of f k (suc n) m ε before) in
     (on.0 ∙ one.0, on.1 ∙ one.1)
 
-same_asked : {s : Stood} {e : JoinBoundary} {x y : WhyAnswer} {f g : Bool} → x ≡ y → f ≡ g
+same_asked : {s : Stood} {e : JoinBoundary} {x y : Result Telling Refusal} {f g : Bool} → x ≡ y → f ≡ g
     → ◌≡◌ {A = Asked} (record { stood = s; entry = e; answer = x; finite = f }) (record { stood = s; entry = e; answer = y; finite = g })
 same_asked p q = cc
 
@@ -348,7 +348,7 @@ module _ (σ : Settings) (k : ℕ) (a b : PlineVertex) (vs : List PlineVertex) w
 
   -- led in by the closing join
   abbrev entered : Asked
-  entered = record { stood = led_in σ a b vs; entry = closing; answer = Refused NoSuchSegment; finite = true }
+  entered = record { stood = led_in σ a b vs; entry = closing; answer = Err NoSuchSegment; finite = true }
 
   closed-entered : asks true σ k (a ∷ b ∷ []) (standing_asked (last_vertex b vs) 2) ≡ entered
   unfolding asks asked_turn standing_asked standing_at advance turn_to after_turn entering first_entry entry_after when◌give◌else◌ led_in closing_join join_at

@@ -12,6 +12,7 @@ use borrow.Author.Tests.{ltb-true, ltb-false, lt-ltb, le-ltb}
 use lib.Dec.{T, ltb}
 use lib.ListN.{length, drop, get_or, replicate, length-append, length-replicate, get_or-replicate, get_or-append}
 use lib.Ieee.{eq}
+use Rattle.std.specs.Prelude.{Result, Ok, Err}
 use Rattle.floats.specs.Binary64 as B
 use Rattle.floats.specs.Choice.{when◌give◌else◌}
 use Rattle.floats.proofs.Choice.{yes, no}
@@ -58,8 +59,6 @@ use Rattle.job.proofs.Ways.{points, drawing, Way, ragged, many, bad, few, tight,
 use Rattle.job.proofs.Demand3.{walk-sound}
 use Rattle.job.proofs.Assertions.{above}
 use Rattle.why.specs.declared.Telling.{Telling}
-use Rattle.why.specs.declared.WhyAnswer.{WhyAnswer}
-use Rattle.why.specs.declared.WhyAnswer.TheVariants.{Told, Refused}
 use Rattle.why.specs.Why.{telling_for, telling_of, told_at, walk_answer, copy_answer, answer_by, why_of}
 use Rattle.why.specs.Claim.{answered, segments_in, Flagged, turned_back, collapsed, gap, Shows, KthKept, OfDone, Claim}
 use Rattle.why.proofs.Roomless.{only_given}
@@ -85,11 +84,11 @@ unfolding verdict_of roomy_verdict
 room_aside fits closed σ vs = tight_or-same (ltb 4096 (length vs)) (first_of (number_tests vs σ)) (ltb (length vs) 2) (fits (room_for σ.corners closed (length vs))) _
 
 -- what is answered where the job is not refused for room: its own refusal, or else what is told
-abbrev instead : WhyAnswer → RawOffsetAnswer → WhyAnswer
+abbrev instead : Result Telling Refusal → RawOffsetAnswer → Result Telling Refusal
 instead told (Job.Done r) = told
-instead told (Job.Refused r) = Refused r
+instead told (Job.Refused r) = Err r
 
-module _ (told : WhyAnswer) (room : ℕ) (old : Buffers) where
+module _ (told : Result Telling Refusal) (room : ℕ) (old : Buffers) where
   by_verdict : (v : Verdict) → answer_by v told ≡ instead told (placed room v old).answer
   by_verdict (refused r) = refl
   by_verdict (drawn d) = refl
@@ -101,20 +100,20 @@ module _ (told : WhyAnswer) (room : ℕ) (old : Buffers) where
 
   by_length : (t : Bool) (v v' : Verdict) → (v ≡ refused NoRoom) ⊎ (v ≡ v')
       → let o : Outcome = when t give placed 0 (refused Ragged) old else placed room v old in (o.answer ≡ Job.Refused NoRoom → ⊥)
-      → (when t give Refused Ragged else answer_by v' told) ≡ instead told o.answer
+      → (when t give Err Ragged else answer_by v' told) ≡ instead told o.answer
   unfolding when◌give◌else◌
   by_length true v v' e h = refl
   by_length false v v' e h = by_verdicts v v' e h
 
 module _ (j : Job) (k : ℕ) where
-  abbrev told : WhyAnswer
+  abbrev told : Result Telling Refusal
   told = when eq j.settings.offset B.zero give copy_answer (segments_of j.closed (length (points j))) k else walk_answer j.closed j.settings (points j) k
 
   by-job : ((outcome j).answer ≡ Job.Refused NoRoom → ⊥) → answered j k ≡ instead told (outcome j).answer
   unfolding why_of job_of
   by-job = by_length told _ j.buffers (not (is_whole j.source)) _ _ (room_aside (has_room j.buffers) j.closed j.settings (points j))
 
-  by-refusal : (r : Refusal) → (outcome j).answer ≡ Job.Refused r → (r ≡ NoRoom → ⊥) → answered j k ≡ Refused r
+  by-refusal : (r : Refusal) → (outcome j).answer ≡ Job.Refused r → (r ≡ NoRoom → ⊥) → answered j k ≡ Err r
   by-refusal r e n = by-job (λ q. n (cc)) ∙ ap (instead told) e
 
   by-done : (r : RawOffsetResult) → (outcome j).answer ≡ Job.Done r → answered j k ≡ told
@@ -187,7 +186,7 @@ module _ (S E : List Edge) where
     kth : Is ms k move
     mem : Memᴰ move ms
     invalid : invalid_at ms k ≡ is_invalid move.reason
-    told : told_at S E ms k ≡ Told (telling_of S E move.reason move.origin)
+    told : told_at S E ms k ≡ Ok (telling_of S E move.reason move.origin)
 
   kth-there : (ms : List Move) (k : ℕ) → k < length ms → Kth ms k
   unfolding invalid_at told_at
@@ -197,7 +196,7 @@ module _ (S E : List Edge) where
       let w = kth-there ms k (omega arith) in
       record { move = w.move; kth = record { there = h; is = w.kth.is }; mem = Memᴰ.tail w.mem; invalid = w.invalid; told = w.told }
 
-  no-kth : (ms : List Move) (k : ℕ) → length ms ≤ k → told_at S E ms k ≡ Refused NoSuchSegment
+  no-kth : (ms : List Move) (k : ℕ) → length ms ≤ k → told_at S E ms k ≡ Err NoSuchSegment
   unfolding told_at
   no-kth [] k h = refl
   no-kth (m ∷ ms) zero h = absurd (omega arith)
@@ -216,7 +215,7 @@ shows closed σ a b vs r m (Connector i) w = refl
 
 -- ---- an output segment that is not there, and one that is
 module _ (j : Job) (k : ℕ) (r : RawOffsetResult) where
-  none-there : answered j k ≡ Refused NoSuchSegment → segments_in r ≤ k → OfDone j k r
+  none-there : answered j k ≡ Err NoSuchSegment → segments_in r ≤ k → OfDone j k r
   none-there e h = record {
     none = (λ q. h, λ q. e);
     there = λ l. absurd (omega arith);
@@ -226,10 +225,10 @@ module _ (j : Job) (k : ℕ) (r : RawOffsetResult) where
     kept = λ t q. absurd (other t q);
   }
     where
-      other : (t : Telling) → answered j k ≡ Told t → ⊥
+      other : (t : Telling) → answered j k ≡ Ok t → ⊥
       other t q = true≢false (cc)
 
-  one-there : (t : Telling) → answered j k ≡ Told t → k < segments_in r → (get_or (outcome j).buffers.flags k 0 ≡ 1) ↔ Flagged (reason_number t.reason)
+  one-there : (t : Telling) → answered j k ≡ Ok t → k < segments_in r → (get_or (outcome j).buffers.flags k 0 ≡ 1) ↔ Flagged (reason_number t.reason)
       → Is (outcome j).buffers.origins k t.origin
       → (T (eq j.settings.offset B.zero) → t ≡ telling_for whole_start whole_end Copied (Span (record { 0 = k }))) → ((T (eq j.settings.offset B.zero) → ⊥) → KthKept j k t)
       → OfDone j k r
@@ -242,16 +241,16 @@ module _ (j : Job) (k : ℕ) (r : RawOffsetResult) where
     kept = λ u q n. subst (KthKept j k) (same u q) (w n);
   }
     where
-      same : (u : Telling) → answered j k ≡ Told u → t ≡ u
+      same : (u : Telling) → answered j k ≡ Ok u → t ≡ u
       same u q = cc
 
 -- ---- a copy
 
-copy_told : (n k : ℕ) → k < n → copy_answer n k ≡ Told (telling_for whole_start whole_end Copied (Span (record { 0 = k })))
+copy_told : (n k : ℕ) → k < n → copy_answer n k ≡ Ok (telling_for whole_start whole_end Copied (Span (record { 0 = k })))
 unfolding copy_answer
 copy_told n k h = sym (yes _ _ _ (lt-ltb k n h) refl)
 
-copy-none : (n k : ℕ) → n ≤ k → copy_answer n k ≡ Refused NoSuchSegment
+copy-none : (n k : ℕ) → n ≤ k → copy_answer n k ≡ Err NoSuchSegment
 unfolding copy_answer
 copy-none n k h = sym (no _ _ _ (le-ltb k n h) refl)
 
@@ -321,7 +320,7 @@ module _ (j : Job) (k : ℕ) (a b : PlineVertex) (vs : List PlineVertex) (source
   abbrev lone : Bool
   lone = lone_collapsed j.closed j.settings (a ∷ b ∷ vs)
 
-  as_walked : answered j k ≡ when lone give Refused NoSuchSegment else told_at starts ends_at ks k
+  as_walked : answered j k ≡ when lone give Err NoSuchSegment else told_at starts ends_at ks k
   unfolding walk_answer
   as_walked = by-done j k _ (ap (λ (o : Outcome). o.answer) is) ∙ sym (no _ _ _ (fails _ way.nonzero) refl) ∙ ap (λ (ws : List PlineVertex). walk_answer j.closed j.settings ws k) source
 
@@ -413,7 +412,7 @@ module _ (j : Job) (k : ℕ) (a b : PlineVertex) (vs : List PlineVertex) (source
 -- ---- an accepted job, by its way
 module _ (j : Job) (k : ℕ) where
   few-told : (ws : List PlineVertex) → length ws < 2 → (t : Bool)
-      → (when t give copy_answer (segments_of j.closed (length ws)) k else walk_answer j.closed j.settings ws k) ≡ Refused NoSuchSegment
+      → (when t give copy_answer (segments_of j.closed (length ws)) k else walk_answer j.closed j.settings ws k) ≡ Err NoSuchSegment
   unfolding when◌give◌else◌ walk_answer
   few-told ws l true = rw (segments-none j.closed (length ws) l) (copy-none 0 k (omega arith))
   few-told [] l false = refl

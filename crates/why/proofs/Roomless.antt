@@ -6,6 +6,7 @@ use Prim.Native.Nat.{ℕ, zero, suc}
 use lib.Dec.{ltb}
 use lib.ListN.{length}
 use lib.Ieee.{eq}
+use Rattle.std.specs.Prelude.{Result, Ok, Err}
 use Rattle.floats.specs.Binary64 as B
 use Rattle.floats.specs.Choice.{when◌give◌else◌}
 use Rattle.segments.specs.declared.PlineVertex.{PlineVertex}
@@ -21,10 +22,9 @@ use Rattle.moves.specs.Drawing.{Drawing, all_finite}
 use Rattle.walk.specs.Walk.{lone_collapsed, drawing_of}
 use Rattle.walk.specs.Spans.{Edge}
 use Rattle.job.specs.Verdict.{Verdict, refused, drawn, refuse◌at◌else◌, finite_verdict, distinct_verdict, roomy_verdict, verdict_of}
-use Rattle.why.specs.declared.WhyAnswer.{WhyAnswer}
-use Rattle.why.specs.declared.WhyAnswer.TheVariants.{Told, Refused}
 use Rattle.why.specs.Why.{told_at, walk_answer, copy_answer, answer_by, why_of}
 use Rattle.why.specs.Claim.{Given, ragged, too_many, bad-number, repeated, not_finite, no_such_segment}
+use Rattle.why.specs.declared.Telling.{Telling}
 
 -- a choice is of the kind that both of its sides are of
 either : {X : Type 0} (P : X → Type 0) (t : Bool) {x y : X} → P x → P y → P (when t give x else y)
@@ -35,9 +35,9 @@ either P false p q = q
 -- ---- what is told
 
 -- a telling, or one of those refusals
-abbrev Answers : WhyAnswer → Type 0
-Answers (Told t) = Unit
-Answers (Refused r) = Given r
+abbrev Answers : Result Telling Refusal → Type 0
+Answers (Ok t) = Unit
+Answers (Err r) = Given r
 
 copy_answers : (n k : ℕ) → Answers (copy_answer n k)
 unfolding copy_answer
@@ -90,7 +90,7 @@ verdict_decides closed σ vs =
 
 -- ---- the answer
 
-by_answers : (v : Verdict) (told : WhyAnswer) → Decides v → Answers told → Answers (answer_by v told)
+by_answers : (v : Verdict) (told : Result Telling Refusal) → Decides v → Answers told → Answers (answer_by v told)
 by_answers (refused r) told h g = h
 by_answers (drawn d) told h g = g
 
@@ -100,5 +100,5 @@ why_answers source closed σ k =
     let vs = vertices_in source in
     either Answers (not (is_whole source)) ragged (by_answers (verdict_of (λ room. true) closed σ vs) _ (verdict_decides closed σ vs) (told_answers closed σ vs k))
 
-pub only_given : (source : Lent) (closed : Bool) (σ : Settings) (k : ℕ) (r : Refusal) → why_of source closed σ k ≡ Refused r → Given r
+pub only_given : (source : Lent) (closed : Bool) (σ : Settings) (k : ℕ) (r : Refusal) → why_of source closed σ k ≡ Err r → Given r
 only_given source closed σ k r e = subst Answers e (why_answers source closed σ k)

@@ -5,6 +5,7 @@ use mathlib.Core.List.{List, [], ◌∷◌, map}
 use mathlib.Core.Bool.{Bool, true, false}
 use Prim.Native.Nat.{ℕ}
 use lib.Ieee.{Float, binary64, of_bits}
+use Rattle.std.specs.Prelude.{Result, Ok, Err}
 use Rattle.floats.specs.Binary64.{zero, one, two, four}
 use Rattle.segments.specs.declared.Settings.{Settings}
 use Rattle.segments.specs.Modes.{round_by, pointed_by}
@@ -19,9 +20,9 @@ use Rattle.moves.specs.declared.Reason.TheVariants.{TurnedBack, Reversal, Candid
 use Rattle.walk.specs.Walk.{copied}
 use Rattle.walk.specs.Spans.{corners_from, starts_of, ends_of}
 use Rattle.job.proofs.PRows.{reckoned, joined, judged, walked, laid, eps, three, minus_one}
-use Rattle.why.specs.declared.WhyAnswer.{WhyAnswer}
-use Rattle.why.specs.declared.WhyAnswer.TheVariants.{Told, Refused}
 use Rattle.why.specs.Why.{param_of, telling_of, told_at, walk_answer, copy_answer, why_of}
+use Rattle.refusals.specs.declared.Refusal.{Refusal}
+use Rattle.why.specs.declared.Telling.{Telling}
 
 unfoldable asked : Unit {0}
 unfolding reckoned joined judged walked laid copied ruled_boundary corners_from starts_of ends_of param_of telling_of told_at walk_answer copy_answer why_of
@@ -38,17 +39,17 @@ pub record Row : Type 0 where
   pub closed : Bool
   pub settings : Settings
   pub segment : ℕ
-  pub answer : WhyAnswer
+  pub answer : Result Telling Refusal
 
-abbrev pub answer_of : Row → WhyAnswer
+abbrev pub answer_of : Row → Result Telling Refusal
 answer_of r = why_of (lent (flat r.points)) r.closed r.settings r.segment
 
 -- of straight segments no rule is told
-abbrev pub told : Origin → Reason → Float → Float → WhyAnswer
-told o r s t = Told (record { origin = o; reason = r; start_param = s; end_param = t; start_rule = NoRule; end_rule = NoRule })
+abbrev pub told : Origin → Reason → Float → Float → Result Telling Refusal
+told o r s t = Ok (record { origin = o; reason = r; start_param = s; end_param = t; start_rule = NoRule; end_rule = NoRule })
 
-abbrev pub none : WhyAnswer
-none = Refused NoSuchSegment
+abbrev pub none : Result Telling Refusal
+none = Err NoSuchSegment
 
 abbrev pub square : List (Float × Float)
 square = (zero, zero) ∷ (four, zero) ∷ (four, four) ∷ (zero, four) ∷ []

@@ -8,6 +8,7 @@ use native.Mathlib.Omega.{arith}
 use lib.Dec.{eqb}
 use lib.ListN.{length}
 use lib.Ieee.{Float, of_bits, is_nan}
+use Rattle.std.specs.Prelude.{Result, Err}
 use Rattle.floats.specs.Binary64.{zero}
 use Rattle.floats.specs.Choice.{when◌give◌else◌, ◌and◌}
 use Rattle.segments.specs.declared.PlineVertex.{PlineVertex}
@@ -27,11 +28,10 @@ use Rattle.refusals.specs.declared.Refusal.TheVariants.{NoSuchSegment}
 use Rattle.walk.specs.InnerSteps.{stands, Stood, stood, standing_at, after_turn, Turn, turn_to, turn_shown, after_span, span_to, drawn_by, pen_by, advance}
 use Rattle.sheet.proofs.Storing.{step-number, numbers-few, closing-connectors}
 use Rattle.why.specs.declared.Telling.{Telling}
-use Rattle.why.specs.declared.WhyAnswer.{WhyAnswer}
-use Rattle.why.specs.declared.WhyAnswer.TheVariants.{Refused}
 use Rattle.why.specs.declared.Note.{Note}
 use Rattle.why.specs.declared.Asking.{Asking}
 use Rattle.why.specs.InnerSteps.{telling_in, told_if, answers_by, finitely, Noted, noted, note_of, notes_of, Asked, asked, noted_of, standing_asked, entry_after, asked_turn, finish_of, closing_answer}
+use Rattle.refusals.specs.declared.Refusal.{Refusal}
 
 -- ---- one move
 module _ (f : Stroke → Telling) (k n : ℕ) (m : Move) (ε : Float) (before : Noted) where
@@ -88,9 +88,9 @@ module _ (f : Stroke → Telling) (k n : ℕ) (ε : Float) where
 -- ---- a walk
 
 pub standing-asked : (w : Walk) (a : PlineVertex) (n : ℕ) → stood w ≡ standing_at a n
-    → asked (record { walk = w; entry = w.entry; answer = Refused NoSuchSegment; doubt = zero }) ≡ standing_asked a n
+    → asked (record { walk = w; entry = w.entry; answer = Err NoSuchSegment; doubt = zero }) ≡ standing_asked a n
 unfolding standing_asked is_nan of_bits
-standing-asked w a n e = ap (λ (x : Stood). record { stood = x; entry = x.walker.entry; answer = Refused NoSuchSegment; finite = true }) e
+standing-asked w a n e = ap (λ (x : Stood). record { stood = x; entry = x.walker.entry; answer = Err NoSuchSegment; finite = true }) e
 
 -- what the moves of a turn leave
 turned_to : Bool → ℕ → Float → JoinBoundary → Turn → ℕ → Noted → Asked
@@ -118,7 +118,7 @@ module _ (closed : Bool) (σ : Settings) (k : ℕ) (c : PlineVertex) (q : Asking
     (tip : noted nₜ ≡ notes_of (telling_in q.entry t.join) k q.walk.leading (tip_first t.join t.connector) σ.eps (noted n₁))
     (two : noted n₂ ≡ note_of (telling_in q.entry t.join) k q.walk.leading t.connector σ.eps (noted nₜ))
     (after : stood w ≡ after_turn closed n₂.pen t.walk.leading (stands t.walk)) (e : entry ≡ entry_after q.walk.leading closed t.join w.entry) where
-  abbrev left : WhyAnswer → Bool → Stood → Asked
+  abbrev left : Result Telling Refusal → Bool → Stood → Asked
   left answer finite x = record { stood = x; entry = entry_after q.walk.leading closed t.join x.walker.entry; answer = answer; finite = finite }
 
   all : noted n₂ ≡ notes_of (telling_in q.entry t.join) k q.walk.leading (with_bulge (bulge_by t.curved t.sweep) t.span ∷ after_span t) σ.eps (noted_of (asked q))

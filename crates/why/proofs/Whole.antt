@@ -8,6 +8,7 @@ use borrow.Author.Tests.{lt-ltb, le-ltb}
 use lib.Dec.{eqb}
 use lib.ListN.{length, drop}
 use lib.Ieee.{eq}
+use Rattle.std.specs.Prelude.{Result, Err}
 use Rattle.floats.specs.Binary64.{zero}
 use Rattle.floats.specs.Choice.{when◌give◌else◌}
 use Rattle.floats.proofs.Choice.{yes, no}
@@ -29,12 +30,12 @@ use Rattle.sheet.proofs.Loop.{advance-moved}
 use Rattle.job.specs.Verdict.{Verdict, refused, drawn, finite_verdict, distinct_verdict, roomy_verdict, verdict_of}
 use Rattle.walk.proofs.Lengths.{moves-few}
 use Rattle.job.proofs.Ways.{found, not_found}
-use Rattle.why.specs.declared.WhyAnswer.{WhyAnswer}
-use Rattle.why.specs.declared.WhyAnswer.TheVariants.{Refused}
 use Rattle.why.specs.declared.Asking.{Asking}
 use Rattle.why.specs.Why.{copy_answer, walk_answer, answer_by, why_of}
 use Rattle.why.specs.InnerSteps.{Asked, asked, standing_asked, asked_turn, asks, Ready, finish_of, last_answer, closing_answer, drawn_answer, good_answer}
 use Rattle.why.proofs.Asked.{open_answered, closed-answered}
+use Rattle.refusals.specs.declared.Refusal.{Refusal}
+use Rattle.why.specs.declared.Telling.{Telling}
 
 -- ---- numbers stay small
 
@@ -88,11 +89,11 @@ module _ (σ : Settings) (k : ℕ) (vs : List PlineVertex) (v : ℕ) (long : v �
 
 -- ---- from the zero offset on
 module _ (closed : Bool) (σ : Settings) (vs : List PlineVertex) (k : ℕ) where
-  pub copy-good : eq σ.offset zero ≡ true → {a : WhyAnswer} → a ≡ copy_answer (segments_of closed (length vs)) k → a ≡ good_answer closed σ vs k
+  pub copy-good : eq σ.offset zero ≡ true → {a : Result Telling Refusal} → a ≡ copy_answer (segments_of closed (length vs)) k → a ≡ good_answer closed σ vs k
   unfolding good_answer
   copy-good e q = yes _ _ _ e q
 
-  pub repeated-good : eq σ.offset zero ≡ false → (i : ℕ) → first_of (repeat_tests closed vs) ≡ At i → Refused (Repeated i) ≡ good_answer closed σ vs k
+  pub repeated-good : eq σ.offset zero ≡ false → (i : ℕ) → first_of (repeat_tests closed vs) ≡ At i → Err (Repeated i) ≡ good_answer closed σ vs k
   unfolding good_answer distinct_verdict
   repeated-good e i h = no _ _ _ e (ap (λ (x : Verdict). answer_by x (walk_answer closed σ vs k)) (found _ i _ _ h))
 
@@ -100,11 +101,11 @@ module _ (closed : Bool) (σ : Settings) (vs : List PlineVertex) (k : ℕ) where
   unfolding drawn_answer finish_of finite_verdict
   finite-answer = by (all_finite (drawing_of closed σ vs).vertices)
     where
-      by : (t : Bool) → when t give walk_answer closed σ vs k else Refused NotFinite ≡ answer_by (when t give drawn (drawing_of closed σ vs) else refused NotFinite) (walk_answer closed σ vs k)
+      by : (t : Bool) → when t give walk_answer closed σ vs k else Err NotFinite ≡ answer_by (when t give drawn (drawing_of closed σ vs) else refused NotFinite) (walk_answer closed σ vs k)
       by true = unfold when◌give◌else◌ in refl
       by false = unfold when◌give◌else◌ in refl
 
-  pub drawn-good : eq σ.offset zero ≡ false → first_of (repeat_tests closed vs) ≡ Nowhere → {a : WhyAnswer} → a ≡ drawn_answer closed σ vs k → a ≡ good_answer closed σ vs k
+  pub drawn-good : eq σ.offset zero ≡ false → first_of (repeat_tests closed vs) ≡ Nowhere → {a : Result Telling Refusal} → a ≡ drawn_answer closed σ vs k → a ≡ good_answer closed σ vs k
   unfolding good_answer distinct_verdict
   drawn-good e h q = no _ _ _ e (q ∙ finite-answer ∙ ap (λ (x : Verdict). answer_by x (walk_answer closed σ vs k)) (not_found _ _ _ h refl))
 
@@ -114,52 +115,52 @@ module _ (s : Lent) (closed : Bool) (σ : Settings) (k : ℕ) where
   vertices = vertices_in s
 
   -- what is told where the job is drawn
-  abbrev told : WhyAnswer
+  abbrev told : Result Telling Refusal
   told = when eq σ.offset zero give copy_answer (segments_of closed (length vertices)) k else walk_answer closed σ vertices k
 
   abbrev verdict : Verdict
   verdict = verdict_of (λ room. true) closed σ vertices
 
-  pub ragged-why : is_whole s ≡ false → Refused Ragged ≡ why_of s closed σ k
+  pub ragged-why : is_whole s ≡ false → Err Ragged ≡ why_of s closed σ k
   unfolding why_of
   ragged-why h = yes _ _ _ (ap not h) refl
 
   module _ (h : Whole s) (v : ℕ) (long : v ≡ length vertices) where
-    counted : {a : WhyAnswer} → a ≡ answer_by verdict told → a ≡ why_of s closed σ k
+    counted : {a : Result Telling Refusal} → a ≡ answer_by verdict told → a ≡ why_of s closed σ k
     unfolding why_of
     counted q = no _ _ _ (ap not (whole_passes s h)) q
 
-    pub many-why : 4096 < v → Refused TooMany ≡ why_of s closed σ k
+    pub many-why : 4096 < v → Err TooMany ≡ why_of s closed σ k
     unfolding verdict_of
     many-why m = counted (ap (λ (x : Verdict). answer_by x told) (yes _ _ _ (lt-ltb 4096 (length vertices) (rw (← long) m)) refl))
 
     module _ (most : v ≤ 4096) where
-      few-enough : {a : WhyAnswer} {x : Verdict} → a ≡ answer_by x told → x ≡ verdict_of (λ room. true) closed σ vertices → a ≡ why_of s closed σ k
+      few-enough : {a : Result Telling Refusal} {x : Verdict} → a ≡ answer_by x told → x ≡ verdict_of (λ room. true) closed σ vertices → a ≡ why_of s closed σ k
       few-enough q e = counted (q ∙ ap (λ (y : Verdict). answer_by y told) e)
 
-      pub bad-why : (i : ℕ) → first_of (number_tests vertices σ) ≡ At i → Refused (BadNumber i) ≡ why_of s closed σ k
+      pub bad-why : (i : ℕ) → first_of (number_tests vertices σ) ≡ At i → Err (BadNumber i) ≡ why_of s closed σ k
       unfolding verdict_of
       bad-why i e = few-enough refl (no _ _ _ (le-ltb 4096 (length vertices) (rw (← long) most)) (found _ i _ _ e))
 
       module _ (e : first_of (number_tests vertices σ) ≡ Nowhere) where
         none_told : (vs : List PlineVertex) → length vs < 2
-            → Refused NoSuchSegment ≡ when eq σ.offset zero give copy_answer (segments_of closed (length vs)) k else walk_answer closed σ vs k
+            → Err NoSuchSegment ≡ when eq σ.offset zero give copy_answer (segments_of closed (length vs)) k else walk_answer closed σ vs k
         unfolding when◌give◌else◌
         none_told vs l = rw (segments-none closed (length vs) l, walk_none vs l) (by (eq σ.offset zero))
           where
-            walk_none : (us : List PlineVertex) → length us < 2 → walk_answer closed σ us k ≡ Refused NoSuchSegment
+            walk_none : (us : List PlineVertex) → length us < 2 → walk_answer closed σ us k ≡ Err NoSuchSegment
             walk_none [] l = unfold walk_answer in refl
             walk_none (a ∷ []) l = unfold walk_answer in refl
             walk_none (a ∷ b ∷ us) l = absurd (omega arith)
 
-            copy-none : copy_answer 0 k ≡ Refused NoSuchSegment
+            copy-none : copy_answer 0 k ≡ Err NoSuchSegment
             copy-none = unfold copy_answer in rw (le-ltb k 0 (omega arith))
 
-            by : (t : Bool) → Refused NoSuchSegment ≡ when t give copy_answer 0 k else Refused NoSuchSegment
+            by : (t : Bool) → Err NoSuchSegment ≡ when t give copy_answer 0 k else Err NoSuchSegment
             by true = sym copy-none
             by false = refl
 
-        pub few-why : v < 2 → Refused NoSuchSegment ≡ why_of s closed σ k
+        pub few-why : v < 2 → Err NoSuchSegment ≡ why_of s closed σ k
         unfolding verdict_of
         few-why l =
             few-enough (none_told vertices (rw (← long) l))
@@ -175,7 +176,7 @@ module _ (s : Lent) (closed : Bool) (σ : Settings) (k : ℕ) where
             by true = refl
             by false = refl
 
-        pub good-why : 2 ≤ v → {a : WhyAnswer} → a ≡ good_answer closed σ vertices k → a ≡ why_of s closed σ k
+        pub good-why : 2 ≤ v → {a : Result Telling Refusal} → a ≡ good_answer closed σ vertices k → a ≡ why_of s closed σ k
         unfolding verdict_of
         good-why l q =
             few-enough (q ∙ sym roomy)

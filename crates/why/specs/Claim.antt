@@ -1,5 +1,5 @@
 -- What 02's 2026-01 asks of the answer to each question, held to the job's own answer and buffers. `proofs/Claim.antt` shows it of every job and number. Definitions only.
-use Rattle.std.specs.Prelude.{◌≡◌, ◌↔◌, List, Bool, ℕ, ◌-◌, ◌≤◌, ◌<◌, T, get_or}
+use Rattle.std.specs.Prelude.{◌≡◌, ◌↔◌, List, Bool, ℕ, ◌-◌, ◌≤◌, ◌<◌, T, get_or, Result, Ok, Err}
 use Rattle.std.specs.Float.Ieee.{eq}
 use Rattle.floats.specs.Binary64.{zero}
 use Rattle.floats.specs.Choice.{when◌give◌else◌}
@@ -22,12 +22,10 @@ use Rattle.job.specs.declared.RawOffsetAnswer.TheVariants as Job
 use Rattle.job.specs.Rows.{Job, outcome}
 use Rattle.job.specs.Demand3.{close, WalkOf}
 use Rattle.why.specs.declared.Telling.{Telling}
-use Rattle.why.specs.declared.WhyAnswer.{WhyAnswer}
-use Rattle.why.specs.declared.WhyAnswer.TheVariants.{Told, Refused}
 use Rattle.why.specs.Why.{telling_for, why_of}
 
 -- the answer to the question for output segment k of a job; the job's buffers are not asked for
-abbrev pub answered : Job → ℕ → WhyAnswer
+abbrev pub answered : Job → ℕ → Result Telling Refusal
 answered j k = why_of j.source j.closed j.settings k
 
 -- the refusals that are given at all, Nos. 1, 2, 3, 5, 6 and 8: room is never asked for (No. 4), and No. 7 is the program's own
@@ -76,19 +74,19 @@ pub record KthKept (j : Job) (k : ℕ) (t : Telling) : Type 0 where
 -- of an accepted job with the counts r
 pub record OfDone (j : Job) (k : ℕ) (r : RawOffsetResult) : Type 0 where
   -- No. 8 exactly where there is no such output segment; else it is told
-  pub none : (answered j k ≡ Refused NoSuchSegment) ↔ (segments_in r ≤ k)
-  pub there : k < segments_in r → (t : Telling) × (answered j k ≡ Told t)
+  pub none : (answered j k ≡ Err NoSuchSegment) ↔ (segments_in r ≤ k)
+  pub there : k < segments_in r → (t : Telling) × (answered j k ≡ Ok t)
   -- its flag in the job's own answer is set exactly for these reasons
-  pub flag : (t : Telling) → answered j k ≡ Told t → (get_or (outcome j).buffers.flags k 0 ≡ 1) ↔ Flagged (reason_number t.reason)
+  pub flag : (t : Telling) → answered j k ≡ Ok t → (get_or (outcome j).buffers.flags k 0 ≡ 1) ↔ Flagged (reason_number t.reason)
   -- its origin is the one in the job's own buffer
-  pub origin : (t : Telling) → answered j k ≡ Told t → Is (outcome j).buffers.origins k t.origin
+  pub origin : (t : Telling) → answered j k ≡ Ok t → Is (outcome j).buffers.origins k t.origin
   -- copied, exactly where the offset is zero; else the k-th kept move
-  pub copied : (t : Telling) → answered j k ≡ Told t → T (eq j.settings.offset zero) → t ≡ telling_for whole_start whole_end Copied (Span (record { 0 = k }))
-  pub kept : (t : Telling) → answered j k ≡ Told t → (T (eq j.settings.offset zero) → ⊥) → KthKept j k t
+  pub copied : (t : Telling) → answered j k ≡ Ok t → T (eq j.settings.offset zero) → t ≡ telling_for whole_start whole_end Copied (Span (record { 0 = k }))
+  pub kept : (t : Telling) → answered j k ≡ Ok t → (T (eq j.settings.offset zero) → ⊥) → KthKept j k t
 
 pub record Claim (j : Job) (k : ℕ) : Type 0 where
   -- a job that is refused, but for room, is refused here
-  pub refused : (r : Refusal) → (outcome j).answer ≡ Job.Refused r → (r ≡ NoRoom → ⊥) → answered j k ≡ Refused r
+  pub refused : (r : Refusal) → (outcome j).answer ≡ Job.Refused r → (r ≡ NoRoom → ⊥) → answered j k ≡ Err r
   -- a refusal here is one of those six: room is never asked for
-  pub only : (r : Refusal) → answered j k ≡ Refused r → Given r
+  pub only : (r : Refusal) → answered j k ≡ Err r → Given r
   pub done : (r : RawOffsetResult) → (outcome j).answer ≡ Job.Done r → OfDone j k r

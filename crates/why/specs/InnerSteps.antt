@@ -1,5 +1,5 @@
 -- What a walk that is asked for a stroke does at each step. No rule rests on these: `proofs/Asked.antt` ties them to the kept moves of the walk. Definitions only.
-use Rattle.std.specs.Prelude.{◌≡◌, ℕ, ◌+◌, ◌*◌, ◌<◌, List, [], ◌∷◌, Bool, true, eqb, length, Float}
+use Rattle.std.specs.Prelude.{◌≡◌, ℕ, ◌+◌, ◌*◌, ◌<◌, List, [], ◌∷◌, Bool, true, eqb, length, Float, Result, Ok, Err}
 use Rattle.std.specs.Float.Ieee.{eq}
 use Rattle.floats.specs.Binary64 as B
 use Rattle.floats.specs.Choice.{when◌give◌else◌, ◌and◌}
@@ -21,13 +21,12 @@ use Rattle.walk.specs.Walk.{drawing_of}
 use Rattle.walk.specs.Spans.{start_at, end_at}
 use Rattle.walk.specs.InnerSteps.{Stood, stood, Fit, standing_at, turn_to, span_to, last_span, drawn_by, advance}
 use Rattle.why.specs.declared.Telling.{Telling}
-use Rattle.why.specs.declared.WhyAnswer.{WhyAnswer}
-use Rattle.why.specs.declared.WhyAnswer.TheVariants.{Told, Refused}
 use Rattle.why.specs.declared.Note.{Note}
 use Rattle.why.specs.declared.Asking.{Asking}
 use Rattle.source.specs.Source.{segments_of}
 use Rattle.job.specs.Verdict.{distinct_verdict}
 use Rattle.why.specs.Why.{telling_for, copy_answer, walk_answer, answer_by}
+use Rattle.refusals.specs.declared.Refusal.{Refusal}
 
 -- ---- strokes
 
@@ -36,11 +35,11 @@ abbrev pub telling_in : JoinBoundary → JoinBoundary → Stroke → Telling
 telling_in entry j s = telling_for (start_at entry) (end_at j) s.reason s.origin
 
 -- the answer after a stroke, of which f tells: that with the number k is told
-unfoldable pub told_if : (Stroke → Telling) → ℕ → Stroke → WhyAnswer → WhyAnswer
-told_if f k s before = when eqb s.number.0 k give Told (f s) else before
+unfoldable pub told_if : (Stroke → Telling) → ℕ → Stroke → Result Telling Refusal → Result Telling Refusal
+told_if f k s before = when eqb s.number.0 k give Ok (f s) else before
 
 -- after a row of strokes
-unfoldable pub answers_by : (Stroke → Telling) → ℕ → List Stroke → WhyAnswer → WhyAnswer
+unfoldable pub answers_by : (Stroke → Telling) → ℕ → List Stroke → Result Telling Refusal → Result Telling Refusal
 answers_by f k [] before = before
 answers_by f k (s ∷ ss) before = answers_by f k ss (told_if f k s before)
 
@@ -53,7 +52,7 @@ finitely (s ∷ ss) before = finitely ss (finite_vertex s.vertex and before)
 
 pub record Noted : Type 0 where
   pub pen : Pen
-  pub answer : WhyAnswer
+  pub answer : Result Telling Refusal
   pub finite : Bool
 
 abbrev pub noted : Note → Noted
@@ -76,7 +75,7 @@ notes_of f k n (m ∷ ms) ε before = notes_of f k n ms ε (note_of f k n m ε b
 pub record Asked : Type 0 where
   pub stood : Stood
   pub entry : JoinBoundary
-  pub answer : WhyAnswer
+  pub answer : Result Telling Refusal
   pub finite : Bool
 
 abbrev pub asked : Asking → Asked
@@ -86,7 +85,7 @@ abbrev pub noted_of : Asked → Noted
 noted_of q = record { pen = q.stood.pen; answer = q.answer; finite = q.finite }
 
 unfoldable pub standing_asked : PlineVertex → ℕ → Asked
-standing_asked a n = record { stood = standing_at a n; entry = (standing_at a n).walker.entry; answer = Refused NoSuchSegment; finite = true }
+standing_asked a n = record { stood = standing_at a n; entry = (standing_at a n).walker.entry; answer = Err NoSuchSegment; finite = true }
 
 -- after a turn that made the join j: an open walk's first span starts at its segment's start
 unfoldable pub entry_after : ℕ → Bool → JoinBoundary → JoinBoundary → JoinBoundary
@@ -120,21 +119,21 @@ pub record Starts (v k t : ℕ) (a : Asking) (vs : List PlineVertex) : Type 0 wh
 
 -- ---- the end of a walk
 
-unfoldable pub finish_of : WhyAnswer → Bool → WhyAnswer
-finish_of answer finite = when finite give answer else Refused NotFinite
+unfoldable pub finish_of : Result Telling Refusal → Bool → Result Telling Refusal
+finish_of answer finite = when finite give answer else Err NotFinite
 
 -- an open walk that drew something ends with its last point as a vertex
-unfoldable pub finish_open : Noted → WhyAnswer
+unfoldable pub finish_open : Noted → Result Telling Refusal
 finish_open n = when eqb n.pen.number.0 0 give n.answer else finish_of n.answer (finite_vertex (vertex_at n.pen.last B.zero) and n.finite)
 
-unfoldable pub last_answer : Bool → Float → ℕ → Asked → WhyAnswer
+unfoldable pub last_answer : Bool → Float → ℕ → Asked → Result Telling Refusal
 last_answer alone ε k q =
     let w = q.stood.walker in
     let end = end_of w.current in
-    when alone and is_collapsed w.current give Refused NoSuchSegment else
+    when alone and is_collapsed w.current give Err NoSuchSegment else
     finish_open (note_of (telling_in q.entry (straight Coincident end end)) k 0 (last_span w) ε (noted_of q))
 
-unfoldable pub closing_answer : JoinBoundary → Float → ℕ → Asked → WhyAnswer
+unfoldable pub closing_answer : JoinBoundary → Float → ℕ → Asked → Result Telling Refusal
 closing_answer j ε k q =
     let w = q.stood.walker in
     let f = telling_in q.entry j in
@@ -142,11 +141,11 @@ closing_answer j ε k q =
     finish_of all.answer all.finite
 
 -- the answer of a source's walk (01 §1, No. 6)
-unfoldable pub drawn_answer : Bool → Settings → List PlineVertex → ℕ → WhyAnswer
+unfoldable pub drawn_answer : Bool → Settings → List PlineVertex → ℕ → Result Telling Refusal
 drawn_answer closed σ vs k = finish_of (walk_answer closed σ vs k) (all_finite (drawing_of closed σ vs).vertices)
 
 -- the answer from the zero offset on
-unfoldable pub good_answer : Bool → Settings → List PlineVertex → ℕ → WhyAnswer
+unfoldable pub good_answer : Bool → Settings → List PlineVertex → ℕ → Result Telling Refusal
 good_answer closed σ vs k =
     when eq σ.offset B.zero give copy_answer (segments_of closed (length vs)) k else
     answer_by (distinct_verdict closed σ vs) (walk_answer closed σ vs k)

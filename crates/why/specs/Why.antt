@@ -1,6 +1,6 @@
 -- Why the flag of an output segment is set or clear (02's 2026-01): for a job, in rows or in columns (2026-08), and a number, which move that output segment is and for what
 -- reason. The moves are the kept ones of the walk that the job's drawing is drawn by, and the refusals are the job's own. Definitions only.
-use Rattle.std.specs.Prelude.{ℕ, zero, suc, List, [], ◌∷◌, Bool, true, not, eqb, ltb, length, get_or, Float}
+use Rattle.std.specs.Prelude.{ℕ, zero, suc, List, [], ◌∷◌, Bool, true, not, ltb, length, get_or, Float, Result, Ok, Err}
 use Rattle.std.specs.Float.Ieee.{eq}
 use Rattle.floats.specs.Binary64 as B
 use Rattle.floats.specs.Choice.{when◌give◌else◌}
@@ -15,7 +15,7 @@ use Rattle.moves.specs.declared.Move.{Move}
 use Rattle.moves.specs.declared.Origin.{Origin}
 use Rattle.moves.specs.declared.Origin.TheVariants.{Span, Connector}
 use Rattle.moves.specs.declared.Reason.{Reason}
-use Rattle.moves.specs.declared.Reason.TheVariants.{Copied}
+use Rattle.moves.specs.declared.Reason.TheVariants.{TurnedBack, Copied}
 use Rattle.moves.specs.Reason.{reason_number}
 use Rattle.moves.specs.Made.{segment_of, is_connector}
 use Rattle.moves.specs.Drawing.{bit, kept}
@@ -24,14 +24,14 @@ use Rattle.walk.specs.Spans.{Edge, whole_start, whole_end, starts_of, ends_of}
 use Rattle.job.specs.Verdict.{Verdict, refused, drawn, verdict_of}
 use Rattle.why.specs.declared.Telling.{Telling}
 use Rattle.why.specs.declared.WhyNumbers.{WhyNumbers}
-use Rattle.why.specs.declared.WhyAnswer.{WhyAnswer}
-use Rattle.why.specs.declared.WhyAnswer.TheVariants.{Told, Refused}
+use Rattle.refusals.specs.declared.Refusal.{Refusal}
 
 -- ---- what is told
 
 -- the parameters are shown of a span that turned back, reason 2
 unfoldable pub param_of : Reason → Float → Float
-param_of r t = when eqb (reason_number r) 2 give t else B.zero
+param_of TurnedBack t = t
+param_of r t = B.zero
 
 -- of a move: its origin and reason; of a span, where it starts and ends, also its parameters and rules there
 abbrev pub telling_for : Edge → Edge → Reason → Origin → Telling
@@ -46,39 +46,39 @@ telling_of starts ends r o = telling_for (get_or starts (segment_of o) whole_sta
 -- ---- which move
 
 -- the k-th of the kept moves, if there is one
-unfoldable pub told_at : List Edge → List Edge → List Move → ℕ → WhyAnswer
-told_at starts ends [] k = Refused NoSuchSegment
-told_at starts ends (m ∷ ms) zero = Told (telling_of starts ends m.reason m.origin)
+unfoldable pub told_at : List Edge → List Edge → List Move → ℕ → Result Telling Refusal
+told_at starts ends [] k = Err NoSuchSegment
+told_at starts ends (m ∷ ms) zero = Ok (telling_of starts ends m.reason m.origin)
 told_at starts ends (m ∷ ms) (suc k) = told_at starts ends ms k
 
 -- of a source, whose drawing is that of `drawing_of`
-unfoldable pub walk_answer : Bool → Settings → List PlineVertex → ℕ → WhyAnswer
-walk_answer closed σ [] k = Refused NoSuchSegment
-walk_answer closed σ (a ∷ []) k = Refused NoSuchSegment
+unfoldable pub walk_answer : Bool → Settings → List PlineVertex → ℕ → Result Telling Refusal
+walk_answer closed σ [] k = Err NoSuchSegment
+walk_answer closed σ (a ∷ []) k = Err NoSuchSegment
 walk_answer closed σ (a ∷ b ∷ vs) k =
-    when lone_collapsed closed σ (a ∷ b ∷ vs) give Refused NoSuchSegment else
+    when lone_collapsed closed σ (a ∷ b ∷ vs) give Err NoSuchSegment else
     told_at (starts_of closed σ a b vs) (ends_of closed σ a b vs) (kept σ.eps (walk_start closed σ a b vs) (walk_moves closed σ a b vs)) k
 
 -- of a copy of n segments: segment k is itself
-unfoldable pub copy_answer : ℕ → ℕ → WhyAnswer
-copy_answer n k = when ltb k n give Told (telling_for whole_start whole_end Copied (Span (record { 0 = k }))) else Refused NoSuchSegment
+unfoldable pub copy_answer : ℕ → ℕ → Result Telling Refusal
+copy_answer n k = when ltb k n give Ok (telling_for whole_start whole_end Copied (Span (record { 0 = k }))) else Err NoSuchSegment
 
 -- ---- the answer: a refusal of the job goes first
 
-abbrev pub answer_by : Verdict → WhyAnswer → WhyAnswer
-answer_by (refused r) told = Refused r
+abbrev pub answer_by : Verdict → Result Telling Refusal → Result Telling Refusal
+answer_by (refused r) told = Err r
 answer_by (drawn d) told = told
 
 -- no buffer is lent: the job's verdict is that with room for anything
-unfoldable pub why_of : Lent → Bool → Settings → ℕ → WhyAnswer
+unfoldable pub why_of : Lent → Bool → Settings → ℕ → Result Telling Refusal
 why_of source closed σ k =
     let vs = vertices_in source in
-    when not (is_whole source) give Refused Ragged else
+    when not (is_whole source) give Err Ragged else
     answer_by (verdict_of (λ room. true) closed σ vs) (when eq σ.offset B.zero give copy_answer (segments_of closed (length vs)) k else walk_answer closed σ vs k)
 
 -- ---- as callers get it: of a refusal all but number and place is 0
-abbrev pub numbers_of : WhyAnswer → WhyNumbers
-numbers_of (Told t) = record {
+abbrev pub numbers_of : Result Telling Refusal → WhyNumbers
+numbers_of (Ok t) = record {
   number = 0;
   place = 0;
   connector = bit (is_connector t.origin);
@@ -89,7 +89,7 @@ numbers_of (Told t) = record {
   start_param = t.start_param;
   end_param = t.end_param;
 }
-numbers_of (Refused r) = record {
+numbers_of (Err r) = record {
   number = number_of r;
   place = place_of r;
   connector = 0;

@@ -3,7 +3,7 @@
 // stroke with the number asked for is told, and the rest is looked at for numbers that are not finite.
 #![tactic(auto)]
 
-ghost use Rattle.std.specs.Prelude.{◌≡◌, true, false, not, ◌+◌, ◌*◌, ◌-◌, ◌≤◌, ◌<◌, eqb, ltb, length};
+ghost use Rattle.std.specs.Prelude.{◌≡◌, true, false, not, ◌+◌, ◌*◌, ◌-◌, ◌≤◌, ◌<◌, eqb, ltb, length, Ok};
 ghost use Rattle.floats.specs.Choice.{when◌give◌else◌, ◌and◌};
 ghost use Rattle.source.specs.Source.{rows, vertices_of, segments_of};
 ghost use Rattle.source.specs.InnerSteps.{next_of};
@@ -16,13 +16,12 @@ ghost use Rattle.job.specs.Verdict.{distinct_verdict};
 ghost use Rattle.job.specs.InnerSteps.{Counted};
 ghost use Rattle.why.specs.Why.{param_of, telling_for, copy_answer, walk_answer, answer_by, why_of, numbers_of};
 ghost use Rattle.why.specs.Handed.{handed, handed_of};
-ghost use Rattle.why.specs.declared.WhyAnswer.TheVariants.{Told};
 ghost use Rattle.why.specs.InnerSteps.{Noted, noted, telling_in, told_if, note_of, notes_of, asked, standing_asked, entry_after, asked_turn, asks, Ready, Starts, finish_of, finish_open, last_answer, closing_answer, drawn_answer, good_answer};
 
 use joins::{JoinBoundary, JoinCause};
 use meetings::ArcRule;
 use moves::{Move, Origin, Pen, Reason, Stroke};
-use refusals::{Place, Refusal};
+use refusals::{MOST_VERTICES, Place, Refusal};
 use segments::{CarriedSeg, OutputSegment, PlineVertex, Settings, SourceSegment};
 use walk::Walk;
 
@@ -36,12 +35,6 @@ pub struct Telling {
     pub end_param: f64,
     pub start_rule: ArcRule,
     pub end_rule: ArcRule,
-}
-
-#[derive(Clone, Copy)]
-pub enum WhyAnswer {
-    Told(Telling),
-    Refused(Refusal),
 }
 
 // An answer in numbers, for callers: number and place of a refusal; whether it is a connector, its source
@@ -59,13 +52,13 @@ pub struct WhyNumbers {
     pub end_param: f64,
 }
 
-impl WhyAnswer {
-    pub fn numbers(self) -> WhyNumbers
-        ensures { result ≡ numbers_of self }
-    {
-        match self {
-            WhyAnswer::Told(telling) => telling.numbers(),
-            WhyAnswer::Refused(refusal) => WhyNumbers {
+impl From<Result<Telling, Refusal>> for WhyNumbers {
+    ghost from_gives = { λ answer numbers. numbers ≡ numbers_of answer };
+
+    fn from(answer: Result<Telling, Refusal>) -> WhyNumbers {
+        match answer {
+            Ok(telling) => telling.numbers(),
+            Err(refusal) => WhyNumbers {
                 number: refusal.number(),
                 place: refusal.place(),
                 connector: 0,
@@ -83,29 +76,24 @@ impl WhyAnswer {
 fn shown_param(reason: Reason, param: f64) -> f64
     ensures { result ≡ param_of reason param }
 {
-    if reason.number() == 2 {
-        return param;
+    match reason {
+        Reason::TurnedBack => param,
+        _ => 0.0,
     }
-    0.0
 }
 
 impl Telling {
     fn numbers(self) -> WhyNumbers
-        ensures { result ≡ numbers_of (Told self) }
+        ensures { result ≡ numbers_of (Ok self) }
     {
-        let origin = self.origin;
-        let source = origin.source();
-        let reason = self.reason;
-        let start = self.start_rule;
-        let end = self.end_rule;
         WhyNumbers {
             number: 0,
             place: 0,
-            connector: origin.is_connector() as u32,
-            source: source.0,
-            reason: reason.number(),
-            start_rule: start.number(),
-            end_rule: end.number(),
+            connector: u32::from(self.origin.is_connector()),
+            source: self.origin.source().0,
+            reason: self.reason.number(),
+            start_rule: self.start_rule.number(),
+            end_rule: self.end_rule.number(),
             start_param: self.start_param,
             end_param: self.end_param,
         }
@@ -120,18 +108,13 @@ impl Telling {
     ) -> Telling
         ensures { result ≡ telling_for (start_at entry) (end_at boundary) reason (Span source) }
     {
-        let origin = Origin::Span(source);
-        let start_param = shown_param(reason, entry.next_param);
-        let end_param = shown_param(reason, boundary.current_param);
-        let start_rule = entry.next_rule;
-        let end_rule = boundary.current_rule;
         Telling {
-            origin,
+            origin: Origin::Span(source),
             reason,
-            start_param,
-            end_param,
-            start_rule,
-            end_rule,
+            start_param: shown_param(reason, entry.next_param),
+            end_param: shown_param(reason, boundary.current_param),
+            start_rule: entry.next_rule,
+            end_rule: boundary.current_rule,
         }
     }
 
@@ -139,13 +122,11 @@ impl Telling {
     fn of(stroke: Stroke, entry: JoinBoundary, boundary: JoinBoundary) -> Telling
         ensures { result ≡ telling_in entry boundary stroke }
     {
-        let reason = stroke.reason;
-        let origin = stroke.origin;
-        match origin {
-            Origin::Span(source) => Telling::of_span(source, reason, entry, boundary),
+        match stroke.origin {
+            Origin::Span(source) => Telling::of_span(source, stroke.reason, entry, boundary),
             Origin::Connector(source) => Telling {
                 origin: Origin::Connector(source),
-                reason,
+                reason: stroke.reason,
                 start_param: 0.0,
                 end_param: 0.0,
                 start_rule: ArcRule::NoRule,
@@ -155,21 +136,31 @@ impl Telling {
     }
 }
 
-// The answer after a stroke: that stroke is told if it has the number asked for.
-fn answer_with(
-    answer: WhyAnswer,
-    stroke: Stroke,
+// What the moves between two boundaries are looked at for: the output segment with a number. So many turns
+// still lead in.
+#[derive(Clone, Copy)]
+struct Look {
     entry: JoinBoundary,
     boundary: JoinBoundary,
     segment: OutputSegment,
-) -> WhyAnswer
-    ensures { result ≡ told_if (telling_in entry boundary) segment.0 stroke answer }
-{
-    let number = stroke.number;
-    if number.0 == segment.0 {
-        return WhyAnswer::Told(Telling::of(stroke, entry, boundary));
+    leading: u32,
+    eps: f64,
+}
+
+impl Look {
+    // The answer after a stroke: that stroke is told if it has the number asked for.
+    fn answer_with(
+        self,
+        answer: Result<Telling, Refusal>,
+        stroke: Stroke,
+    ) -> Result<Telling, Refusal>
+        ensures { result ≡ told_if (telling_in self.entry self.boundary) self.segment.0 stroke answer }
+    {
+        if stroke.number.0 == self.segment.0 {
+            return Ok(Telling::of(stroke, self.entry, self.boundary));
+        }
+        answer
     }
-    answer
 }
 
 // The pen, the answer so far, and a doubt: a NaN from the first number drawn that is not finite on, and
@@ -177,61 +168,36 @@ fn answer_with(
 #[derive(Clone, Copy)]
 pub struct Note {
     pub pen: Pen,
-    pub answer: WhyAnswer,
+    pub answer: Result<Telling, Refusal>,
     pub doubt: f64,
 }
 
 impl Note {
     // The first of two connectors, if the boundary has a tip: `connector` is the other.
-    fn tip(
-        self,
-        leading: u32,
-        connector: Move,
-        entry: JoinBoundary,
-        boundary: JoinBoundary,
-        eps: f64,
-        segment: OutputSegment,
-    ) -> Note
+    fn tip(self, connector: Move, look: Look) -> Note
         requires { self.pen.number.0 + 1 < 0x1_0000_0000 }
-        ensures { noted result ≡ notes_of (telling_in entry boundary) segment.0 leading (tip_first boundary connector) eps (noted self) }
+        ensures { noted result ≡ notes_of (telling_in look.entry look.boundary) look.segment.0 look.leading (tip_first look.boundary connector) look.eps (noted self) }
     {
-        let cause = boundary.cause;
-        if !cause.is_pointed() {
+        if !look.boundary.cause.is_pointed() {
             return self;
         }
-        let tip = connector.to_tip(boundary.tip);
-        self.step(leading, tip, entry, boundary, eps, segment)
+        self.step(connector.to_tip(look.boundary.tip), look)
     }
 
-    // One move more, between two boundaries; it is drawn if it is kept and no turn leads in any more.
-    fn step(
-        self,
-        leading: u32,
-        m: Move,
-        entry: JoinBoundary,
-        boundary: JoinBoundary,
-        eps: f64,
-        segment: OutputSegment,
-    ) -> Note
+    // One move more; it is drawn if it is kept and no turn leads in any more.
+    fn step(self, m: Move, look: Look) -> Note
         requires { self.pen.number.0 + 1 < 0x1_0000_0000 }
-        ensures { noted result ≡ note_of (telling_in entry boundary) segment.0 leading m eps (noted self) }
+        ensures { noted result ≡ note_of (telling_in look.entry look.boundary) look.segment.0 look.leading m look.eps (noted self) }
     {
-        let pen = self.pen;
-        let stepped = pen.step(m, eps);
-        let after = stepped.pen;
-        let before = self.answer;
-        if !moves::both(leading == 0, stepped.kept) {
-            return Note {
-                pen: after,
-                answer: before,
-                doubt: self.doubt,
-            };
+        let stepped = self.pen.step(m, look.eps);
+        let pen = stepped.pen;
+        if !moves::both(look.leading == 0, stepped.kept) {
+            return Note { pen, ..self };
         }
         let stroke = stepped.stroke;
-        let answer = answer_with(before, stroke, entry, boundary, segment);
         Note {
-            pen: after,
-            answer,
+            pen,
+            answer: look.answer_with(self.answer, stroke),
             doubt: self.doubt + moves::doubt(stroke.vertex),
         }
     }
@@ -261,7 +227,7 @@ fn entry_after(
 pub struct Asking {
     pub walk: Walk,
     pub entry: JoinBoundary,
-    pub answer: WhyAnswer,
+    pub answer: Result<Telling, Refusal>,
     pub doubt: f64,
 }
 
@@ -271,12 +237,10 @@ impl Asking {
         ensures { (asked result ≡ standing_asked vertex leading) × Fit result.walk }
     {
         let walk = Walk::standing(vertex, leading);
-        let entry = walk.entry;
-        let answer = WhyAnswer::Refused(Refusal::NoSuchSegment);
         Asking {
             walk,
-            entry,
-            answer,
+            entry: walk.entry,
+            answer: Err(Refusal::NoSuchSegment),
             doubt: 0.0,
         }
     }
@@ -285,12 +249,9 @@ impl Asking {
     fn note(self) -> Note
         ensures { noted result ≡ record { pen = self.walk.pen; answer = self.answer; finite = sure self.doubt } }
     {
-        let walk = self.walk;
-        let pen = walk.pen;
-        let answer = self.answer;
         Note {
-            pen,
-            answer,
+            pen: self.walk.pen,
+            answer: self.answer,
             doubt: self.doubt,
         }
     }
@@ -309,27 +270,25 @@ impl Asking {
         ensures { (asked result ≡ asked_turn closed settings segment.0 next (asked self)) × Fit result.walk }
     {
         let walk = self.walk;
-        let entry = self.entry;
-        let leading = walk.leading;
-        let eps = settings.eps;
         let ahead = CarriedSeg::anew(walk.vertex, next, settings.offset);
-        let corners = settings.corners;
-        let turned = walk.turn(next, ahead, settings, corners.are_pointed());
-        let boundary = turned.join;
-        let connector = turned.connector;
+        let turned = walk.turn(next, ahead, settings, settings.corners.are_pointed());
+        let look = Look {
+            entry: self.entry,
+            boundary: turned.join,
+            segment,
+            leading: walk.leading,
+            eps: settings.eps,
+        };
         let bulge = segments::bulge_by(turned.curved, turned.sweep);
-        let span = turned.span.bulging(bulge);
         let before = self.note();
-        let half = before.step(leading, span, entry, boundary, eps, segment);
-        let tipped = half.tip(leading, connector, entry, boundary, eps, segment);
-        let whole = tipped.step(leading, connector, entry, boundary, eps, segment);
-        let walk = turned.walk.after(whole.pen, closed);
-        let entry = entry_after(leading, closed, boundary, walk.entry);
-        let answer = whole.answer;
+        let half = before.step(turned.span.bulging(bulge), look);
+        let tipped = half.tip(turned.connector, look);
+        let whole = tipped.step(turned.connector, look);
+        let on = turned.walk.after(whole.pen, closed);
         Asking {
-            walk,
-            entry,
-            answer,
+            walk: on,
+            entry: entry_after(look.leading, closed, look.boundary, on.entry),
+            answer: whole.answer,
             doubt: whole.doubt,
         }
     }
@@ -359,66 +318,87 @@ fn ask_turns(
 }
 
 // The answer, where all numbers drawn are finite. A NaN alone is not equal to itself.
-fn finish(answer: WhyAnswer, doubt: f64) -> WhyAnswer
+fn finish(answer: Result<Telling, Refusal>, doubt: f64) -> Result<Telling, Refusal>
     ensures { result ≡ finish_of answer (sure doubt) }
 {
     if doubt == doubt {
         return answer;
     }
-    WhyAnswer::Refused(Refusal::NotFinite)
+    Err(Refusal::NotFinite)
 }
 
 // An open walk's last vertex is drawn too, but a lone vertex is none.
-fn finish_open(note: Note) -> WhyAnswer
+fn finish_open(note: Note) -> Result<Telling, Refusal>
     ensures { result ≡ finish_open (noted note) }
 {
-    let pen = note.pen;
-    let number = pen.number;
-    let answer = note.answer;
-    if number.0 == 0 {
-        return answer;
+    if note.pen.number.0 == 0 {
+        return note.answer;
     }
-    let last = PlineVertex::from_vector2(pen.last, 0.0);
-    finish(answer, note.doubt + moves::doubt(last))
+    let last = PlineVertex::from_vector2(note.pen.last, 0.0);
+    finish(note.answer, note.doubt + moves::doubt(last))
 }
 
 // The last span of an open walk runs to its segment's end. A lone collapsed arc draws nothing.
-fn ask_last(asking: Asking, alone: bool, eps: f64, segment: OutputSegment) -> WhyAnswer
+fn ask_last(
+    asking: Asking,
+    alone: bool,
+    eps: f64,
+    segment: OutputSegment,
+) -> Result<Telling, Refusal>
     requires { asking.walk.pen.number.0 + 1 < 0x1_0000_0000 }
     ensures { result ≡ last_answer alone eps segment.0 (asked asking) }
 {
     let walk = asking.walk;
-    let current = walk.current;
-    let entry = asking.entry;
-    if moves::both(alone, current.is_collapsed()) {
-        return WhyAnswer::Refused(Refusal::NoSuchSegment);
+    if moves::both(alone, walk.current.is_collapsed()) {
+        return Err(Refusal::NoSuchSegment);
     }
-    let end = current.end();
+    let end = walk.current.end();
+    let look = Look {
+        entry: asking.entry,
+        boundary: JoinBoundary::straight(JoinCause::Coincident, end, end),
+        segment,
+        leading: 0,
+        eps,
+    };
     let span = walk.span_to(end, 1.0);
-    let whole = JoinBoundary::straight(JoinCause::Coincident, end, end);
     let before = asking.note();
-    finish_open(before.step(0, span, entry, whole, eps, segment))
+    finish_open(before.step(span, look))
 }
 
 // The closing moves of a closed walk: the last span, up to the closing join, and its connectors.
-fn ask_closing(asking: Asking, closing: JoinBoundary, eps: f64, segment: OutputSegment) -> WhyAnswer
+fn ask_closing(
+    asking: Asking,
+    closing: JoinBoundary,
+    eps: f64,
+    segment: OutputSegment,
+) -> Result<Telling, Refusal>
     requires { asking.walk.pen.number.0 + 3 < 0x1_0000_0000 }
     ensures { result ≡ closing_answer closing eps segment.0 (asked asking) }
 {
     let walk = asking.walk;
-    let entry = asking.entry;
+    let look = Look {
+        entry: asking.entry,
+        boundary: closing,
+        segment,
+        leading: 0,
+        eps,
+    };
     let span = walk.span_to(closing.current_end, closing.current_param);
     let connector = Move::connector(walk.source, closing);
     let before = asking.note();
-    let half = before.step(0, span, entry, closing, eps, segment);
-    let tipped = half.tip(0, connector, entry, closing, eps, segment);
-    let whole = tipped.step(0, connector, entry, closing, eps, segment);
-    let answer = whole.answer;
-    finish(answer, whole.doubt)
+    let half = before.step(span, look);
+    let tipped = half.tip(connector, look);
+    let whole = tipped.step(connector, look);
+    finish(whole.answer, whole.doubt)
 }
 
 // An open walk: led in by one turn, from the first vertex.
-fn ask_open(source: &[f64], v: usize, settings: Settings, segment: OutputSegment) -> WhyAnswer
+fn ask_open(
+    source: &[f64],
+    v: usize,
+    settings: Settings,
+    segment: OutputSegment,
+) -> Result<Telling, Refusal>
     requires { Counted v (vertices_of source.now) }
     ensures { result ≡ drawn_answer false settings (vertices_of source.now) segment.0 }
 {
@@ -428,7 +408,12 @@ fn ask_open(source: &[f64], v: usize, settings: Settings, segment: OutputSegment
 }
 
 // A closed walk: led in by two turns, from the last vertex, by the closing join.
-fn ask_closed(source: &[f64], v: usize, settings: Settings, segment: OutputSegment) -> WhyAnswer
+fn ask_closed(
+    source: &[f64],
+    v: usize,
+    settings: Settings,
+    segment: OutputSegment,
+) -> Result<Telling, Refusal>
     requires { Counted v (vertices_of source.now) }
     ensures { result ≡ drawn_answer true settings (vertices_of source.now) segment.0 }
 {
@@ -441,13 +426,12 @@ fn ask_closed(source: &[f64], v: usize, settings: Settings, segment: OutputSegme
 }
 
 // Of a copy: each segment is itself.
-fn ask_copy(segments: usize, segment: OutputSegment) -> WhyAnswer
+fn ask_copy(segments: usize, segment: OutputSegment) -> Result<Telling, Refusal>
     ensures { result ≡ copy_answer segments segment.0 }
 {
-    let number = segment.0;
-    if (number as usize) < segments {
-        return WhyAnswer::Told(Telling {
-            origin: Origin::Span(SourceSegment(number)),
+    if (segment.0 as usize) < segments {
+        return Ok(Telling {
+            origin: Origin::Span(SourceSegment(segment.0)),
             reason: Reason::Copied,
             start_param: 0.0,
             end_param: 0.0,
@@ -455,7 +439,7 @@ fn ask_copy(segments: usize, segment: OutputSegment) -> WhyAnswer
             end_rule: ArcRule::NoRule,
         });
     }
-    WhyAnswer::Refused(Refusal::NoSuchSegment)
+    Err(Refusal::NoSuchSegment)
 }
 
 // A source of two vertices or more, all of whose numbers are good.
@@ -465,7 +449,7 @@ fn ask_good(
     closed: bool,
     settings: Settings,
     segment: OutputSegment,
-) -> WhyAnswer
+) -> Result<Telling, Refusal>
     requires { Counted v (vertices_of source.now) }
     ensures { result ≡ good_answer closed settings (vertices_of source.now) segment.0 }
 {
@@ -474,7 +458,7 @@ fn ask_good(
     }
     let repeated = refusals::first_repeated(false, source, source, source, v, closed);
     if let Place::At(k) = repeated {
-        return WhyAnswer::Refused(Refusal::Repeated(k));
+        return Err(Refusal::Repeated(k));
     }
     if closed {
         return ask_closed(source, v, settings, segment);
@@ -502,26 +486,29 @@ impl WhyNumbers {
     }
 }
 
-const MOST_VERTICES: usize = 4096;
-
 // Why the flag of an output segment is set or clear. Any numbers may come in; no buffer is lent, so that
 // none can be too short.
-pub fn why(source: &[f64], closed: bool, settings: Settings, segment: OutputSegment) -> WhyAnswer
+pub fn why(
+    source: &[f64],
+    closed: bool,
+    settings: Settings,
+    segment: OutputSegment,
+) -> Result<Telling, Refusal>
     ensures { result ≡ why_of (rows source.now) closed settings segment.0 }
 {
     if source.len() % 3 != 0 {
-        return WhyAnswer::Refused(Refusal::Ragged);
+        return Err(Refusal::Ragged);
     }
     let v = source.len() / 3;
     if MOST_VERTICES < v {
-        return WhyAnswer::Refused(Refusal::TooMany);
+        return Err(Refusal::TooMany);
     }
     let bad = refusals::first_bad_number(false, source, source, source, v, settings);
     if let Place::At(k) = bad {
-        return WhyAnswer::Refused(Refusal::BadNumber(k));
+        return Err(Refusal::BadNumber(k));
     }
     if v < 2 {
-        return WhyAnswer::Refused(Refusal::NoSuchSegment);
+        return Err(Refusal::NoSuchSegment);
     }
     ask_good(source, v, closed, settings, segment)
 }

@@ -6,6 +6,7 @@
 #![tactic(auto)]
 
 use segments::{OutputSegment, Settings};
+use why::WhyNumbers;
 use words::{print, read_number, read_word};
 
 // More segments than a stored job draws.
@@ -19,7 +20,7 @@ fn print_next(n: u32) {
 // Prints what is told of a segment. Answers whether there is one.
 fn tell(source: &[f64], closed: bool, settings: Settings, segment: u32) -> bool {
     let told = why::why(source, closed, settings, OutputSegment(segment));
-    let n = told.numbers();
+    let n = WhyNumbers::from(told);
     let _written = io::print_decimal(1, n.number as u64);
     print_next(n.place);
     print_next(n.connector);

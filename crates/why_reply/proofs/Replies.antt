@@ -8,6 +8,7 @@ use borrow.Author.Tests.{eq-eqb, ne_eqb}
 use lib.ListN.{length, take, drop, length-drop}
 use lib.Seq.{take_all}
 use lib.Ieee.{Float}
+use Rattle.std.specs.Prelude.{Result}
 use Rattle.floats.proofs.Choice.{yes, no}
 use Rattle.words.specs.Words.{big_endian}
 use Rattle.refusals.specs.declared.Refusal.TheVariants as Refusal
@@ -22,9 +23,10 @@ use Rattle.packed.specs.Packed.{well_formed, decoded, job_in, corners_in, decode
 use Rattle.packed.specs.Text.{refusal_of, told_of}
 use Rattle.packed.proofs.Bytes.{too_short, decoded-none, decoded_well, decoded_parts, decoded-numbers}
 use Rattle.why.specs.declared.WhyNumbers.{WhyNumbers}
-use Rattle.why.specs.declared.WhyAnswer.{WhyAnswer}
 use Rattle.why.specs.Why.{why_of, numbers_of}
 use Rattle.why_reply.specs.WhyReply.{telling_text, packed_answer, packed_reply, why_reply_of}
+use Rattle.refusals.specs.declared.Refusal.{Refusal}
+use Rattle.why.specs.declared.Telling.{Telling}
 
 abbrev pub malformed_text : List ℕ
 malformed_text = refusal_of (number_of Refusal.Malformed) (place_of Refusal.Malformed)
@@ -67,7 +69,7 @@ module _ (bytes : List ℕ) (old : List Float) {p : Packed} {s : List Float} (e 
 
 -- ---- the texts
 
-module _ {w a : WhyAnswer} {n : WhyNumbers} (answered : a ≡ w) (numbered : n ≡ numbers_of a) where
+module _ {w a : Result Telling Refusal} {n : WhyNumbers} (answered : a ≡ w) (numbered : n ≡ numbers_of a) where
   is : n ≡ numbers_of w
   is = numbered ∙ ap numbers_of answered
 

@@ -15,6 +15,7 @@ ghost use Rattle.why_reply.specs.WhyReply.{telling_text, packed_reply, why_reply
 use packed::{Form, Packed};
 use refusals::Refusal;
 use segments::{OutputSegment, Settings};
+use why::WhyNumbers;
 
 // The answer to a question, at the start of `text`. Answers its length.
 pub fn reply(bytes: &[u8], text: &mut [u8; 98304]) -> usize
@@ -78,7 +79,7 @@ fn tell(
     ensures text_after { text.new ≡ telling_text (numbers_of (why_of (rows source.now) closed settings segment.0)) ++ drop result text.old }
 {
     let answer = why::why(source, closed, settings, segment);
-    let n = answer.numbers();
+    let n = WhyNumbers::from(answer);
     if n.number == 0 {
         return packed::put_told(
             n.number,

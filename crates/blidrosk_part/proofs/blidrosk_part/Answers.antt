@@ -6,4 +6,4 @@ use Rattle.blidrosk_part.proofs.blidrosk_part.Goals as goal
 pub returns : goal.returns
 unfolding handed_of
 returns c =
-    rw (c.place.ensures, c.number-number.ensures, c.bounds-bounds.ensures) (ap handed_of c.find-found.ensures)
+    rw (c.place.ensures, c.number-number.ensures, c.unwrap_or-bounds.ensures, c.empty.ensures) (ap handed_of c.find-found.ensures)

@@ -4,4 +4,4 @@ use Rattle.blidrosk_why.proofs.blidrosk_why.Goals as goal
 
 pub returns : goal.returns
 returns c =
-    c.hand.ensures ∙ rw (c.numbers.ensures, c.why-told.ensures, c.round-settings.ensures)
+    c.hand.ensures ∙ rw (c.from.ensures, c.why-told.ensures, c.round-settings.ensures)

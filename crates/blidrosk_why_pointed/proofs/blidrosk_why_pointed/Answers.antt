@@ -4,4 +4,4 @@ use Rattle.blidrosk_why_pointed.proofs.blidrosk_why_pointed.Goals as goal
 
 pub returns : goal.returns
 returns c =
-    c.hand.ensures ∙ rw (c.numbers.ensures, c.why-told.ensures, c.pointed-settings.ensures)
+    c.hand.ensures ∙ rw (c.from.ensures, c.why-told.ensures, c.pointed-settings.ensures)

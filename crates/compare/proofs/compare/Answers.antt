@@ -1,53 +1,20 @@
 -- `compare::compare` meets its contract. Assumes nothing.
-use mathlib.Core.Path.{sym, ◌∙◌}
-use Rattle.compare.specs.Compare.{output}
-use Rattle.compare.proofs.Answers.{few, ragged-first, many-first, ragged-second, many-second, both-good}
+use Rattle.std.proofs.lemmas.Result.{err_from_is_err_and}
+use Rattle.compare.proofs.Answers.{few_checked, first-fails, second-fails, both-pass}
 use Rattle.compare.proofs.compare.Goals as goal
 
-pub returns-then-not-is_even : goal.returns-then-not-is_even
-returns-then-not-is_even c =
-    let a = c.args in
-    let first = output a.a.now a.a_closed a.a_flags.now in
-    let second = output a.b.now a.b_closed a.b_flags.now in
-    ragged-first first second a.numbers.now a.fields.now (sym c.is_even.ensures ∙ c.if-not-is_even.true)
+pub returns-in_err-check : goal.returns-in_err-check
+returns-in_err-check c =
+    let p = err_from_is_err_and c.from_residual.result c.from_residual.ensures.1 in
+    rw (p.1, p.2) (first-fails _ _ _ _ c.in_err-check.ensures)
 
-pub returns-then-is_many : goal.returns-then-is_many
-returns-then-is_many c =
-    let a = c.args in
-    let first = output a.a.now a.a_closed a.a_flags.now in
-    let second = output a.b.now a.b_closed a.b_flags.now in
-    let even = sym c.is_even.ensures ∙ c.if-not-is_even.false in
-    many-first first second a.numbers.now a.fields.now even (sym c.is_many.ensures ∙ c.if-is_many.true)
-
-pub returns-then-not-is_even-2 : goal.returns-then-not-is_even-2
-returns-then-not-is_even-2 c =
-    let a = c.args in
-    let first = output a.a.now a.a_closed a.a_flags.now in
-    let second = output a.b.now a.b_closed a.b_flags.now in
-    let even = sym c.is_even.ensures ∙ c.if-not-is_even.false in
-    let few = sym c.is_many.ensures ∙ c.if-is_many.false in
-    ragged-second first second a.numbers.now a.fields.now even few (sym c.is_even-2.ensures ∙ c.if-not-is_even-2.true)
-
-pub returns-then-is_many-2 : goal.returns-then-is_many-2
-returns-then-is_many-2 c =
-    let a = c.args in
-    let first = output a.a.now a.a_closed a.a_flags.now in
-    let second = output a.b.now a.b_closed a.b_flags.now in
-    let even = sym c.is_even.ensures ∙ c.if-not-is_even.false in
-    let few = sym c.is_many.ensures ∙ c.if-is_many.false in
-    let even-too = sym c.is_even-2.ensures ∙ c.if-not-is_even-2.false in
-    many-second first second a.numbers.now a.fields.now even few even-too (sym c.is_many-2.ensures ∙ c.if-is_many-2.true)
+pub returns-in_err-check-2 : goal.returns-in_err-check-2
+returns-in_err-check-2 c =
+    let p = err_from_is_err_and c.from_residual-in_err-check-2.result c.from_residual-in_err-check-2.ensures.1 in
+    rw (p.1, p.2) (second-fails _ _ _ _ c.in_ok-check.ensures c.in_err-check-2.ensures)
 
 pub list-requires : goal.list-requires
-list-requires c =
-    (few _ (sym c.is_many.ensures ∙ c.if-is_many.false), few _ (sym c.is_many-2.ensures ∙ c.if-is_many-2.false))
+list-requires c = (few_checked _ c.in_ok-check.ensures, few_checked _ c.in_ok-check-2.ensures)
 
 pub returns : goal.returns
-returns c =
-    let a = c.args in
-    let first = output a.a.now a.a_closed a.a_flags.now in
-    let second = output a.b.now a.b_closed a.b_flags.now in
-    let even = sym c.is_even.ensures ∙ c.if-not-is_even.false in
-    let few = sym c.is_many.ensures ∙ c.if-is_many.false in
-    let even-too = sym c.is_even-2.ensures ∙ c.if-not-is_even-2.false in
-    both-good first second a.numbers.now a.fields.now even few even-too (sym c.is_many-2.ensures ∙ c.if-is_many-2.false) c.list.ensures
+returns c = both-pass _ _ _ _ c.in_ok-check.ensures c.in_ok-check-2.ensures c.list.ensures

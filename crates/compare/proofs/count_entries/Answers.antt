@@ -2,9 +2,10 @@
 use mathlib.Core.Path.{◌≡◌, refl, ap, ◌∙◌}
 use native.Mathlib.Omega.{arith}
 use lib.ListN.{length}
-use Rattle.source.specs.Source.{vertices_of}
-use Rattle.compare.specs.Compare.{entries_for, entries_to}
-use Rattle.compare.proofs.Entries.{length-next}
+use Rattle.std.specs.Int.{from_bool}
+use Rattle.compare.specs.Compare.{points_of, entries_for, entries_to}
+use Rattle.compare.proofs.Entries.{entry-byte, length-next}
+use Rattle.compare.proofs.Told.{byte-most}
 use Rattle.compare.proofs.count_entries.Goals as goal
 
 pub loop-k-init : goal.loop-k-init
@@ -18,9 +19,9 @@ pub loop-k-preserved : goal.loop-k-preserved
 loop-k-preserved c =
     let k = c.loop-k.k in
     let a = c.args in
-    let n = length-next (vertices_of a.a.now) a.a_flags.now (vertices_of a.b.now) a.b_flags.now k in
-    let one = c.entries_for-count.ensures.by_index k ∙ ap (λ f. length (entries_for k f)) c.fields_at.ensures in
-    (omega arith, (omega arith, omega arith))
+    let n = length-next (points_of a.a.now) a.a.now.flags (points_of a.b.now) a.b.now.flags k in
+    let one = c.from-count.ensures ∙ ap from_bool c.any.ensures ∙ entry-byte k _ ∙ ap (λ f. length (entries_for k f)) c.fields_at.ensures in
+    (omega arith, (omega arith, omega (arith, byte-most c.any.result)))
 
 pub returns : goal.returns
 returns c =

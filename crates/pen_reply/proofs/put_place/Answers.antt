@@ -11,7 +11,7 @@ vertex_at-v-requires c = omega (arith, length-vertices c.args.vertices.now)
 pub returns-then-i-answer : goal.returns-then-i-answer
 returns-then-i-answer c =
     let a = c.args in
-    let e = at-segment a.answer (vertices_of a.vertices.now) a.flags.now a.origins.now a.i c.if-i-answer.true c.vertex_at-v.ensures c.of_code.ensures in
+    let e = at-segment a.answer (vertices_of a.vertices.now) a.flags.now a.origins.now a.i c.if-i-answer.true c.vertex_at-v.ensures c.from.ensures in
     record {
       value = rw (← e) c.put_segment.ensures.value;
       upper_bound = c.put_segment.ensures.upper_bound;

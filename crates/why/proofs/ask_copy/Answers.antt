@@ -13,10 +13,10 @@ none-shown : (t : Float) → param_of Copied t ≡ zero
 unfolding param_of when◌give◌else◌
 none-shown t = refl
 
-pub returns-then-number-segments : goal.returns-then-number-segments
+pub returns-then-segment-segments : goal.returns-then-segment-segments
 unfolding copy_answer
-returns-then-number-segments c = yes _ _ _ (lt-ltb _ _ c.if-number-segments.true) (simp none-shown)
+returns-then-segment-segments c = yes _ _ _ (lt-ltb _ _ c.if-segment-segments.true) (simp none-shown)
 
 pub returns : goal.returns
 unfolding copy_answer
-returns c = no _ _ _ (le-ltb _ _ c.if-number-segments.false) refl
+returns c = no _ _ _ (le-ltb _ _ c.if-segment-segments.false) refl

@@ -19,4 +19,4 @@ pub returns : goal.returns
 unfolding last_answer last_span
 returns c =
     no _ _ _ (sym (c.both.ensures ∙ rw c.is_collapsed.ensures) ∙ c.if-both.false)
-    (c.finish_open.ensures ∙ ap finish_open (c.step.ensures ∙ rw (c.note-before.ensures, c.straight-whole.ensures, c.span_to-span.ensures, c.end-end.ensures)))
+    (c.finish_open.ensures ∙ ap finish_open (c.step.ensures ∙ rw (c.note-before.ensures, c.straight.ensures, c.span_to-span.ensures, c.end-end.ensures)))

@@ -6,11 +6,11 @@ use Rattle.moves.proofs.Finite.{doubt-more}
 use Rattle.why.specs.InnerSteps.{finish_open}
 use Rattle.why.proofs.finish_open.Goals as goal
 
-pub returns-then-number-eq0 : goal.returns-then-number-eq0
+pub returns-then-note-eq0 : goal.returns-then-note-eq0
 unfolding finish_open
-returns-then-number-eq0 c = yes _ _ _ (eq-eqb _ _ c.if-number-eq0.true) refl
+returns-then-note-eq0 c = yes _ _ _ (eq-eqb _ _ c.if-note-eq0.true) refl
 
 pub returns : goal.returns
 unfolding finish_open
 returns c =
-    no _ _ _ (ne_eqb _ _ c.if-number-eq0.false) (rw (c.finish.ensures, c.doubt.ensures, doubt-more, c.from_vector2-last.ensures))
+    no _ _ _ (ne_eqb _ _ c.if-note-eq0.false) (rw (c.finish.ensures, c.doubt.ensures, doubt-more, c.from_vector2-last.ensures))

@@ -1,14 +1,20 @@
 -- `why::shown_param` meets its contract. Assumes nothing.
-use mathlib.Core.Path.{refl, sym, ◌∙◌}
-use borrow.Author.Tests.{eq-eqb, ne_eqb}
-use Rattle.floats.proofs.Choice.{yes, no}
+use mathlib.Core.Path.{◌≡◌, refl}
+use lib.Ieee.{Float}
+use Rattle.floats.specs.Binary64.{zero}
+use Rattle.moves.specs.declared.Reason.{Reason}
+use Rattle.moves.specs.declared.Reason.TheVariants.{TurnedBack}
 use Rattle.why.specs.Why.{param_of}
 use Rattle.why.proofs.shown_param.Goals as goal
 
-pub returns-then-number-eq2 : goal.returns-then-number-eq2
+none-shown : (r : Reason) (t : Float) → (r ≡ TurnedBack → ⊥) → zero ≡ param_of r t
 unfolding param_of
-returns-then-number-eq2 c = yes _ _ _ (eq-eqb _ _ (sym c.number.ensures ∙ c.if-number-eq2.true)) refl
+none-shown TurnedBack t h = absurd (h refl)
+none-shown _ t h = refl
 
-pub returns : goal.returns
+pub returns-in-TurnedBack : goal.returns-in-TurnedBack
 unfolding param_of
-returns c = no _ _ _ (ne_eqb _ _ (λ e. c.if-number-eq2.false (c.number.ensures ∙ e))) refl
+returns-in-TurnedBack c = rw c.in-TurnedBack.is refl
+
+pub returns-in_default : goal.returns-in_default
+returns-in_default c = none-shown _ _ c.in_default.not-TurnedBack

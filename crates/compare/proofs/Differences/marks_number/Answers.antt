@@ -1,9 +1,7 @@
 -- `compare::Differences::marks_number` meets its contract. Assumes nothing.
-use Rattle.floats.proofs.Same.{choices}
+use mathlib.Core.Path.{◌∙◌}
+use Rattle.compare.proofs.Told.{bit-byte}
 use Rattle.compare.proofs.Differences.marks_number.Goals as goal
 
-pub returns-then-self : goal.returns-then-self
-returns-then-self c = search choices
-
 pub returns : goal.returns
-returns c = search choices
+returns c = c.from.ensures ∙ bit-byte c.args.self.marks

@@ -21,9 +21,9 @@ loop-i-preserved c =
     let at = c.loop-i in
     let p = c.put_origin-end in
     let t = c.loop-i-test.true in
-    let o = c.of_code.result in
+    let o = c.from.result in
     let e : origin_lines (take (suc at.i) (origins_in a.origins.now)) ≡ origin_lines (take at.i (origins_in a.origins.now)) ++ origin_line o =
-    rw c.of_code.ensures (origin-lines-next a.origins.now at.i (omega arith)) in
+    rw c.from.ensures (origin-lines-next a.origins.now at.i (omega arith)) in
     let n = place-next a.at (origin_lines (take at.i (origins_in a.origins.now))) (origin_line o) at.invariant.1.0 p.ensures.value in
     (writing_turn at.invariant.0 t (origin_line o) at.end at.invariant.1.0 e p.ensures.out_after, (rw (add-one, e) n, omega arith))
 

@@ -35,7 +35,7 @@ step-whole-requires c =
 pub returns : goal.returns
 returns c =
     let t = c.turn-turned.ensures in (
-      turn-asked _ _ _ _ c.args.self c.turn-turned.result c.after-walk.result c.note-before.result c.step-half.result c.tip-tipped.result c.step-whole.result t.0 t.4 c.bulge_by-bulge.ensures
-          c.bulging-span.ensures c.note-before.ensures c.step-half.ensures c.tip-tipped.ensures c.step-whole.ensures c.after-walk.ensures.0 c.entry_after-entry.ensures,
-      c.after-walk.ensures.1 t.2,
+      turn-asked _ _ _ _ c.args.self c.turn-turned.result c.after-on.result c.note-before.result c.step-half.result c.tip-tipped.result c.step-whole.result t.0 t.4 c.bulge_by-bulge.ensures
+          c.bulging.ensures c.note-before.ensures c.step-half.ensures c.tip-tipped.ensures c.step-whole.ensures c.after-on.ensures.0 c.entry_after.ensures,
+      c.after-on.ensures.1 t.2,
     )

@@ -9,5 +9,5 @@ returns-then-not-both c =
 
 pub returns : goal.returns
 returns c =
-    rw (c.doubt.ensures, doubt-more, c.answer_with-answer.ensures)
+    rw (c.doubt.ensures, doubt-more, c.answer_with.ensures)
     (step-drawn _ _ _ _ _ _ c.step-stepped.result c.step-stepped.ensures c.both.ensures c.if-not-both.false)

@@ -7,7 +7,7 @@ use Rattle.why.proofs.Note.tip.Goals as goal
 pub returns-then-not-is_pointed : goal.returns-then-not-is_pointed
 unfolding notes_of
 returns-then-not-is_pointed c =
-    rw (tip-none c.args.boundary c.args.connector (sym c.is_pointed.ensures ∙ c.if-not-is_pointed.true)) refl
+    rw (tip-none c.args.look.boundary c.args.connector (sym c.is_pointed.ensures ∙ c.if-not-is_pointed.true)) refl
 
 pub step-requires : goal.step-requires
 step-requires c = c.requires
@@ -15,4 +15,4 @@ step-requires c = c.requires
 pub returns : goal.returns
 unfolding notes_of
 returns c =
-    rw (tip-some c.args.boundary c.args.connector (sym c.is_pointed.ensures ∙ c.if-not-is_pointed.false)) (c.step.ensures ∙ rw c.to_tip-tip.ensures)
+    rw (tip-some c.args.look.boundary c.args.connector (sym c.is_pointed.ensures ∙ c.if-not-is_pointed.false)) (c.step.ensures ∙ rw c.to_tip.ensures)

@@ -2,4 +2,4 @@
 use Rattle.why.proofs.Telling.of_span.Goals as goal
 
 pub returns : goal.returns
-returns c = rw (c.shown_param-end_param.ensures, c.shown_param-start_param.ensures)
+returns c = rw (c.shown_param-2.ensures, c.shown_param.ensures)
