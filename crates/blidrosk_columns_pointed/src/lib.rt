@@ -10,6 +10,10 @@ ghost use Rattle.sheet.specs.Buffers.{buffers};
 ghost use Rattle.job.specs.Job.{job_of};
 ghost use Rattle.job.specs.Handed.{handed, handed_of};
 
+use segments::Settings;
+use sheet::{ColumnsMut, Marks};
+use source::Columns;
+
 // Offsets a drawing, given as all x, all y and all bulges, into three such columns and three buffers
 // more, and returns the number of the answer. `answer` is set to number, place, count of vertices,
 // count of indexes, and 1 where the drawing is closed.
@@ -34,9 +38,18 @@ pub extern "C" fn blidrosk_raw_offset_columns_pointed(
         ≡ handed_of (job_of (columns xs.now ys.now bulges.now) closed (pointed_by offset eps ratio)
         (buffers (columns outxs.old outys.old outbulges.old) flags.old indexes.old (origins_in origins.old))) }
 {
-    let a = job::create_raw_offset_columns_pointed(
-        xs, ys, bulges, closed, offset, eps, ratio, outxs, outys, outbulges, flags, indexes,
+    let settings = Settings::pointed(offset, eps, ratio);
+    let source = Columns { xs, ys, bulges };
+    let mut columns = ColumnsMut {
+        xs: outxs,
+        ys: outys,
+        bulges: outbulges,
+    };
+    let mut marks = Marks {
+        flags,
+        indexes,
         origins,
-    );
+    };
+    let a = job::create_raw_offset(source, closed, settings, &mut columns, &mut marks);
     job::hand(a, answer)
 }

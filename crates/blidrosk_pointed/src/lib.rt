@@ -10,6 +10,10 @@ ghost use Rattle.sheet.specs.Buffers.{buffers};
 ghost use Rattle.job.specs.Job.{job_of};
 ghost use Rattle.job.specs.Handed.{handed, handed_of};
 
+use segments::Settings;
+use sheet::{Marks, RowsMut};
+use source::Rows;
+
 // Offsets a drawing into the four lent buffers, with corners that are pointed up to `ratio`, and
 // returns the number of the answer. `answer` is set to number, place, count of vertices, count of indexes, and 1 where the drawing is closed.
 #[unsafe(no_mangle)]
@@ -28,8 +32,13 @@ pub extern "C" fn blidrosk_raw_offset_pointed(
     ensures { handed result answer.new (buffers (rows vertices.new) flags.new indexes.new (origins_in origins.new))
         ≡ handed_of (job_of (rows source.now) closed (pointed_by offset eps ratio) (buffers (rows vertices.old) flags.old indexes.old (origins_in origins.old))) }
 {
-    let a = job::create_raw_offset_pointed(
-        source, closed, offset, eps, ratio, vertices, flags, indexes, origins,
-    );
+    let settings = Settings::pointed(offset, eps, ratio);
+    let mut rows = RowsMut(vertices);
+    let mut marks = Marks {
+        flags,
+        indexes,
+        origins,
+    };
+    let a = job::create_raw_offset(Rows(source), closed, settings, &mut rows, &mut marks);
     job::hand(a, answer)
 }

@@ -6,6 +6,7 @@ use mathlib.Core.List.{List, [], ◌∷◌, ◌++◌, map, append_assoc, Memᴰ}
 use mathlib.Core.Bool.{Bool, true, false, not, true≢false}
 use Prim.Native.Nat.{ℕ, suc, ◌<◌}
 use lib.Ieee.{Float, lt, le, of_bits}
+use Rattle.std.specs.Prelude.{None}
 use Rattle.floats.specs.Binary64.{zero}
 use Rattle.floats.specs.Size.{finite}
 use Rattle.floats.proofs.Choice.{both_pass}
@@ -14,7 +15,6 @@ use Rattle.vectors.specs.Plane.{near}
 use Rattle.vectors.specs.declared.Vector2.{Vector2}
 use Rattle.segments.specs.declared.RawOffsetSeg.{RawOffsetSeg}
 use Rattle.joins.specs.declared.JoinBoundary.{JoinBoundary}
-use Rattle.refusals.specs.declared.Place.TheVariants.{Nowhere}
 use Rattle.source.specs.Source.{vertices_in}
 use Rattle.refusals.specs.Limits.{least_eps, most_eps, inside, good_vertex, good_offset, good_eps, good_corners, number_tests, first_from}
 use Rattle.refusals.proofs.First.{by_test}
@@ -34,7 +34,7 @@ use Rattle.job.proofs.Demand3.{walk-sound}
 
 -- ---- where the numbers are good, ε is above zero
 
-one_fails : (k : ℕ) (bs : List Bool) (b : Bool) (cs : List Bool) → first_from k (bs ++ b ∷ cs) ≡ Nowhere → b ≡ false
+one_fails : (k : ℕ) (bs : List Bool) (b : Bool) (cs : List Bool) → first_from k (bs ++ b ∷ cs) ≡ None → b ≡ false
 unfolding first_from
 one_fails k [] true cs h = let z : true ≡ false = cc in cc
 one_fails k [] false cs h = refl

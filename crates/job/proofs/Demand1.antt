@@ -6,6 +6,7 @@ use native.Mathlib.Omega.{arith}
 use borrow.Author.Tests.{eq-eqb, leb-true, leb-false}
 use lib.Dec.{leb}
 use lib.ListN.{get_or, get_or-eq_default}
+use Rattle.std.specs.Prelude.{Err, Ok, Result}
 use Rattle.floats.proofs.Choice.{yes}
 use Rattle.refusals.specs.declared.Refusal.{Refusal}
 use Rattle.refusals.specs.declared.Refusal.TheVariants.{Ragged, TooMany, BadNumber, NoRoom, Repeated, NotFinite, Malformed, NoSuchSegment, NoOpenJob, NoSuchSourceSegment}
@@ -13,10 +14,10 @@ use Rattle.refusals.specs.Table.{number_of, place_of}
 use Rattle.refusals.proofs.First.{by_test}
 use Rattle.moves.specs.Drawing.{nothing, empty_result}
 use Rattle.sheet.specs.Buffers.{Buffers, shown}
-use Rattle.job.specs.declared.RawOffsetAnswer.{RawOffsetAnswer}
-use Rattle.job.specs.declared.RawOffsetAnswer.TheVariants.{Done, Refused}
+use Rattle.moves.specs.declared.RawOffsetResult.{RawOffsetResult}
 use Rattle.job.specs.Verdict.{Verdict, refused, drawn}
-use Rattle.job.specs.Job.{number, place, result_in, after_refusal, placed}
+use Rattle.job.specs.Job.{result_in, after_refusal, placed}
+use Rattle.refusals.specs.Table.{number, place}
 use Rattle.job.specs.Rows.{Job, outcome, places, Given, Row1, Row2, Row3, Row4, Row5, Row6}
 use Rattle.job.specs.Demand1.{Accepted, Demand1}
 use Rattle.job.proofs.Ways.{as_was, Way, ragged, many, bad, few, tight, copy, repeated, endless, whole, reached, leads_to, ends, way}
@@ -35,13 +36,13 @@ placed_at NoSuchSegment p q = refl
 placed_at NoOpenJob p q = refl
 placed_at NoSuchSourceSegment p q = refl
 
-no_place : (a : RawOffsetAnswer) → (number a ≡ 3 → ⊥) → (number a ≡ 5 → ⊥) → place a ≡ 0
-no_place (Done r) p q = refl
-no_place (Refused r) p q = placed_at r p q
+no_place : (a : Result RawOffsetResult Refusal) → (number a ≡ 3 → ⊥) → (number a ≡ 5 → ⊥) → place a ≡ 0
+no_place (Ok r) p q = refl
+no_place (Err r) p q = placed_at r p q
 
-no-counts : (a : RawOffsetAnswer) → 1 ≤ number a → result_in a ≡ empty_result
-no-counts (Done r) h = absurd (omega arith)
-no-counts (Refused r) h = refl
+no-counts : (a : Result RawOffsetResult Refusal) → 1 ≤ number a → result_in a ≡ empty_result
+no-counts (Ok r) h = absurd (omega arith)
+no-counts (Err r) h = refl
 
 -- ---- what a verdict leaves
 

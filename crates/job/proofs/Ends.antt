@@ -7,7 +7,9 @@ use native.Mathlib.Omega.{arith}
 use borrow.Author.Tests.{not-true, not-false}
 use lib.Dec.{leb}
 use lib.ListN.{length}
-use lib.Ieee.{Float, eq}
+use lib.Ieee.{eq}
+use Rattle.std.specs.Option.{ok_or}
+use Rattle.std.specs.Prelude.{Option, None, Some, Result, Ok, Err}
 use Rattle.floats.specs.Binary64.{zero}
 use Rattle.floats.specs.Choice.{when◌give◌else◌, ◌and◌}
 use Rattle.floats.proofs.Choice.{yes, no}
@@ -16,12 +18,11 @@ use Rattle.segments.specs.declared.Corners.{Corners}
 use Rattle.segments.specs.declared.Corners.TheVariants.{Round, Pointed}
 use Rattle.segments.specs.declared.Settings.{Settings}
 use Rattle.segments.specs.Modes.{are_pointed}
-use Rattle.source.specs.Source.{Lent, rows, columns, vertices_in, Whole, segments_of}
-use Rattle.source.specs.InnerSteps.{lent_by, count_by, whole_by}
-use Rattle.source.proofs.Source.{count-is, whole_is, whole-told, whole_passes}
+use Rattle.source.specs.Source.{Lent, rows, columns, vertices_in, Whole, is_whole, segments_of}
+use Rattle.source.proofs.Source.{whole-told, whole_passes}
 use Rattle.source.proofs.Segments.{segments-none, segments-most}
+use Rattle.refusals.specs.declared.Refusal.{Refusal}
 use Rattle.refusals.specs.declared.Refusal.TheVariants.{Ragged, TooMany, BadNumber, NoRoom, Repeated, NotFinite}
-use Rattle.refusals.specs.declared.Place.TheVariants.{Nowhere, At}
 use Rattle.refusals.specs.Limits.{number_tests, repeat_tests, first_of}
 use Rattle.refusals.proofs.NumberRow.{number-row, number_nowhere}
 use Rattle.moves.specs.declared.RawOffsetResult.{RawOffsetResult}
@@ -29,14 +30,11 @@ use Rattle.moves.specs.Drawing.{Drawing, nothing, all_finite, empty_result, resu
 use Rattle.walk.specs.Walk.{moves_a_segment, drawing_of, copied}
 use Rattle.walk.proofs.Lengths.{two-moves}
 use Rattle.sheet.proofs.Products.{product_most}
-use Rattle.sheet.specs.declared.Built.{Built}
-use Rattle.sheet.specs.Buffers.{Buffers, buffers, flat, laid_in, shown}
-use Rattle.sheet.specs.InnerSteps.{held, fitting, showing, Ready, Drawable, Finished, finished, built_of}
-use Rattle.sheet.proofs.Holding.{held-made, held-shown}
-use Rattle.moves.specs.Origins.{origins_in}
+use Rattle.sheet.specs.declared.lent.Marks.{Marks}
+use Rattle.sheet.specs.Buffers.{Buffers, flat, laid_in, shown}
+use Rattle.sheet.specs.InnerSteps.{Loaned, held_by, held, lent, SameLoans, fitting, showing, Ready, Drawable, Finished, finished, built_of}
+use Rattle.sheet.proofs.Holding.{held-made, held-shown, held_same}
 use Rattle.moves.proofs.Origins.{origins-length}
-use Rattle.job.specs.declared.RawOffsetAnswer.{RawOffsetAnswer}
-use Rattle.job.specs.declared.RawOffsetAnswer.TheVariants.{Done, Refused}
 use Rattle.job.specs.Verdict.{Verdict, refused, drawn, room_for, finite_verdict, distinct_verdict, roomy_verdict}
 use Rattle.job.specs.Job.{Outcome, ending, after_refusal, placed, has_room, job_of}
 use Rattle.job.specs.Rows.{Job, places, Numbers}
@@ -60,16 +58,12 @@ few-places closed v pointed {m} {n} k p h =
 
 -- ---- the first three tests
 
--- what the test of whole vertices, and the count of them, say
-module _ (c : Bool) (xs ys bs : List Float) where
-  pub told-ragged : {r : Bool} → r ≡ whole_by c (length xs) (length ys) (length bs) → not r ≡ true → Whole (lent_by c xs ys bs) → ⊥
-  told-ragged e n w = true≢false (sym (whole_passes (lent_by c xs ys bs) w) ∙ whole_is c xs ys bs ∙ sym e ∙ not-true _ n)
+-- what the test of whole vertices says
+pub told-ragged : (s : Lent) {r : Bool} → r ≡ is_whole s → not r ≡ true → Whole s → ⊥
+told-ragged s e n w = true≢false (sym (whole_passes s w) ∙ sym e ∙ not-true _ n)
 
-  pub told-whole : {r : Bool} → r ≡ whole_by c (length xs) (length ys) (length bs) → not r ≡ false → Whole (lent_by c xs ys bs)
-  told-whole e n = whole-told (lent_by c xs ys bs) (whole_is c xs ys bs ∙ sym e ∙ not-false _ n)
-
-  pub told-count : {v : ℕ} → v ≡ count_by c (length xs) (length ys) (length bs) → v ≡ length (vertices_in (lent_by c xs ys bs))
-  told-count e = e ∙ sym (count-is c xs ys bs)
+pub told-whole : (s : Lent) {r : Bool} → r ≡ is_whole s → not r ≡ false → Whole s
+told-whole s e n = whole-told s (sym e ∙ not-false _ n)
 
 -- nothing in no room is what stood there
 nothing-laid : (l : Lent) → laid_in 0 [] l ≡ l
@@ -85,37 +79,37 @@ module _ (s : Lent) (closed : Bool) (σ : Settings) (old : Buffers) where
   abbrev job : Job
   job = record { source = s; closed = closed; settings = σ; buffers = old }
 
-  pub ragged-ends : (Whole s → ⊥) → ending (Refused Ragged) old ≡ job_of s closed σ old
+  pub ragged-ends : (Whole s → ⊥) → ending (Err Ragged) old ≡ job_of s closed σ old
   ragged-ends h = unchanged Ragged _ old (λ e. omega arith) ∙ ends job (ragged h)
 
   module _ (h : Whole s) where
-    pub many-ends : 4096 < length (vertices_in s) → ending (Refused TooMany) old ≡ job_of s closed σ old
+    pub many-ends : 4096 < length (vertices_in s) → ending (Err TooMany) old ≡ job_of s closed σ old
     many-ends m = unchanged TooMany _ old (λ e. omega arith) ∙ ends job (many (record { whole = h; many = m }))
 
     module _ (most : length (vertices_in s) ≤ 4096) where
-      pub bad-ends : (k : ℕ) → first_of (number_tests (vertices_in s) σ) ≡ At k → ending (Refused (BadNumber k)) old ≡ job_of s closed σ old
+      pub bad-ends : (k : ℕ) → first_of (number_tests (vertices_in s) σ) ≡ Some k → ending (Err (BadNumber k)) old ≡ job_of s closed σ old
       bad-ends k e =
           unchanged (BadNumber k) _ old (λ e. omega arith) ∙ ends job (bad k (record { countable = record { whole = h; few = most }; bad = (number-row _ _ k).0 e }))
 
-      good : first_of (number_tests (vertices_in s) σ) ≡ Nowhere → Numbers job
+      good : first_of (number_tests (vertices_in s) σ) ≡ None → Numbers job
       good e = record { countable = record { whole = h; few = most }; good = (number_nowhere _ _).0 e }
 
-      pub few-ends : first_of (number_tests (vertices_in s) σ) ≡ Nowhere → length (vertices_in s) < 2 → ending (Done empty_result) old ≡ job_of s closed σ old
+      pub few-ends : first_of (number_tests (vertices_in s) σ) ≡ None → length (vertices_in s) < 2 → ending (Ok empty_result) old ≡ job_of s closed σ old
       few-ends e t =
           let z : moves_a_segment σ.corners * 0 ≡ 0 = omega arith in
-          ap (ending (Done empty_result)) (sym (rw (segments-none closed (length (vertices_in s)) t, z) (nothing-shown old))) ∙ ends job (few (good e) t)
+          ap (ending (Ok empty_result)) (sym (rw (segments-none closed (length (vertices_in s)) t, z) (nothing-shown old))) ∙ ends job (few (good e) t)
 
-      pub good-ends : first_of (number_tests (vertices_in s) σ) ≡ Nowhere → 2 ≤ length (vertices_in s) → {o : Outcome} → o ≡ from_room (vertices_in s) closed σ old → o ≡ job_of s closed σ old
+      pub good-ends : first_of (number_tests (vertices_in s) σ) ≡ None → 2 ≤ length (vertices_in s) → {o : Outcome} → o ≡ from_room (vertices_in s) closed σ old → o ≡ job_of s closed σ old
       unfolding room_for
       good-ends e t q = q ∙ ap (λ (v : Verdict). placed (places job) v old) (counted job h (two_way job (good e) t refl)) ∙ job-placed job
 
 -- ---- from No. 4 on. The code has the mode, n segments, m moves a segment, how many vertices fit, and the answer t of its test of the room.
 
-module _ (s : List PlineVertex) (closed : Bool) (c : Bool) (xs ys bs : List Float) (f i o : List ℕ) (σ : Settings) (pointed : Bool) (mode : pointed ≡ are_pointed σ.corners) (v m n fit : ℕ) (t : Bool)
-    (counts : Counted v s) (moves : m ≡ moves_if pointed) (h : n ≡ segments_of closed v) (k : fit ≡ length (vertices_in (lent_by c xs ys bs)))
-    (r : t ≡ (leb (m * n) fit and (leb (m * n) (length f) and (leb (m * n) (length i) and leb (m * n) (length o))))) where
+module _ (s : List PlineVertex) (closed : Bool) (l : Loaned) (b : Marks) (σ : Settings) (pointed : Bool) (mode : pointed ≡ are_pointed σ.corners) (v m n fit : ℕ) (t : Bool)
+    (counts : Counted v s) (moves : m ≡ moves_if pointed) (h : n ≡ segments_of closed v) (k : fit ≡ length (held_by l).made)
+    (r : t ≡ (leb (m * n) fit and (leb (m * n) (length b.flags.now) and (leb (m * n) (length b.indexes.now) and leb (m * n) (length b.origins.now))))) where
   abbrev old : Buffers
-  old = buffers (lent_by c xs ys bs) f i (origins_in o)
+  old = lent l b
 
   abbrev room : ℕ
   room = room_for σ.corners closed (length s)
@@ -129,27 +123,27 @@ module _ (s : List PlineVertex) (closed : Bool) (c : Bool) (xs ys bs : List Floa
 
   tested : t ≡ fits
   unfolding has_room
-  tested = r ∙ rw (room-is, k, origins-length o)
+  tested = r ∙ rw (room-is, k, held-made l, origins-length b.origins.now)
 
-  pub drawable : not t ≡ false → Drawable v (segments_of closed v) (m * n) σ pointed s (held c xs ys bs f i o)
+  pub drawable : not t ≡ false → Drawable v (segments_of closed v) (m * n) σ pointed s (held l b)
   drawable e =
-      let fit = all_fit (m * n) fit (length f) (length i) (length o) (sym r ∙ not-false t e) in
+      let fit = all_fit (m * n) fit (length b.flags.now) (length b.indexes.now) (length b.origins.now) (sym r ∙ not-false t e) in
       record {
         ready = record {
           long = counts.long;
           two = counts.two;
           most = counts.most;
-          vertices = rw (held-made c xs ys bs, ← k) fit.0;
+          vertices = rw (← k) fit.0;
           flags = fit.1;
           indexes = fit.2;
-          origins = rw (origins-length o) fit.3;
+          origins = rw (origins-length b.origins.now) fit.3;
         };
         told = mode;
         enough = let e = room-is in rw counts.long (unfold room_for in omega (arith, e));
         small = few-places closed v pointed counts.most moves h;
       }
 
-  pub copyable : not t ≡ false → Ready v (m * n) s (held c xs ys bs f i o) × (2 * segments_of closed v ≤ m * n) × (m * n ≤ 12288)
+  pub copyable : not t ≡ false → Ready v (m * n) s (held l b) × (2 * segments_of closed v ≤ m * n) × (m * n ≤ 12288)
   copyable e =
       let d = drawable e in
       (d.ready, omega (arith, d.enough, product_most 2 (moves_a_segment σ.corners) (segments_of closed v) (two-moves σ.corners)), d.small)
@@ -161,16 +155,16 @@ module _ (s : List PlineVertex) (closed : Bool) (c : Bool) (xs ys bs : List Floa
   abbrev verdict : Verdict
   verdict = roomy_verdict fits closed σ s
 
-  pub no_room : not t ≡ true → ending (Refused NoRoom) old ≡ judged verdict
+  pub no_room : not t ≡ true → ending (Err NoRoom) old ≡ judged verdict
   unfolding roomy_verdict
   no_room e = unchanged NoRoom _ old (λ z. omega arith) ∙ ap judged (yes _ _ _ (ap not (sym tested) ∙ e) refl)
 
-  pub zero-offset : not t ≡ false → eq σ.offset zero ≡ true → {a : RawOffsetResult} (xs' ys' bs' : List Float) (f' i' o' : List ℕ) → a ≡ result_of (copied closed s)
-      → held c xs' ys' bs' f' i' o' ≡ showing (m * n) (copied closed s) (held c xs ys bs f i o) → ending (Done a) (buffers (lent_by c xs' ys' bs') f' i' (origins_in o')) ≡ judged verdict
+  pub zero-offset : not t ≡ false → eq σ.offset zero ≡ true → {a : RawOffsetResult} (l' : Loaned) (b' : Marks) → a ≡ result_of (copied closed s)
+      → held l' b' ≡ showing (m * n) (copied closed s) (held l b) → ending (Ok a) (lent l' b') ≡ judged verdict
   unfolding roomy_verdict
-  zero-offset e z xs' ys' bs' f' i' o' p q =
-      let b = held-shown c xs ys bs xs' ys' bs' f i o f' i' o' (m * n) (copied closed s) (drawable e).ready.vertices q in
-      rw (p, b, room-is) (ap judged (no _ _ _ (ap not (sym tested) ∙ e) (yes _ _ _ z refl)))
+  zero-offset e z l' b' p q =
+      let shows = held-shown l l' b b' (m * n) (copied closed s) (drawable e).ready.vertices q in
+      rw (p, shows, room-is) (ap judged (no _ _ _ (ap not (sym tested) ∙ e) (yes _ _ _ z refl)))
 
   pub nonzero-offset : not t ≡ false → eq σ.offset zero ≡ false → {x : Outcome} → x ≡ placed (m * n) (distinct_verdict closed σ s) old → x ≡ judged verdict
   unfolding roomy_verdict
@@ -179,32 +173,34 @@ module _ (s : List PlineVertex) (closed : Bool) (c : Bool) (xs ys bs : List Floa
 -- ---- from No. 5 on
 
 -- what is answered of what was built
-abbrev pub answered : Built → RawOffsetAnswer
-answered (Built.Done r) = Done r
-answered Built.NotFinite = Refused NotFinite
+abbrev pub answered : Option RawOffsetResult → Result RawOffsetResult Refusal
+answered r = ok_or r NotFinite
 
-module _ (c : Bool) (xs ys bs xs' ys' bs' : List Float) (f i o f' i' o' : List ℕ) (room : ℕ) (fits : room ≤ fitting (held c xs ys bs f i o)) where
-  abbrev lent : Buffers
-  lent = buffers (lent_by c xs ys bs) f i (origins_in o)
-
-  built-ends : (d : Drawing) {x : Built} → finished x (held c xs' ys' bs' f' i' o') ≡ built_of room d (held c xs ys bs f i o)
-      → ending (answered x) (buffers (lent_by c xs' ys' bs') f' i' (origins_in o')) ≡ placed room (finite_verdict d) lent
+module _ (l l' : Loaned) (m m' : Marks) (room : ℕ) (fits : room ≤ fitting (held l m)) where
+  built-ends : (d : Drawing) {x : Option RawOffsetResult} → finished x (held l' m') ≡ built_of room d (held l m) → ending (answered x) (lent l' m') ≡ placed room (finite_verdict d) (lent l m)
   unfolding built_of finite_verdict after_refusal when◌give◌else◌
   built-ends d {x} h = by (all_finite d.vertices) h
     where
-      by : (t : Bool) → finished x (held c xs' ys' bs' f' i' o')
-          ≡ when t give finished (Built.Done (result_of d)) (showing room d (held c xs ys bs f i o)) else finished Built.NotFinite (showing room nothing (held c xs ys bs f i o))
-          → ending (answered x) (buffers (lent_by c xs' ys' bs') f' i' (origins_in o')) ≡ placed room (when t give drawn d else refused NotFinite) lent
-      by true e = rw (ap (λ (y : Finished). y.built) e, held-shown c xs ys bs xs' ys' bs' f i o f' i' o' room d fits (ap (λ (y : Finished). y.buffers) e))
-      by false e = rw (ap (λ (y : Finished). y.built) e, held-shown c xs ys bs xs' ys' bs' f i o f' i' o' room nothing fits (ap (λ (y : Finished). y.buffers) e))
+      by : (t : Bool) → finished x (held l' m') ≡ when t give finished (Some (result_of d)) (showing room d (held l m)) else finished None (showing room nothing (held l m))
+          → ending (answered x) (lent l' m') ≡ placed room (when t give drawn d else refused NotFinite) (lent l m)
+      by true e = rw (ap (λ (y : Finished). y.built) e, held-shown l l' m m' room d fits (ap (λ (y : Finished). y.buffers) e))
+      by false e = rw (ap (λ (y : Finished). y.built) e, held-shown l l' m m' room nothing fits (ap (λ (y : Finished). y.buffers) e))
+
+  pub built-same : (d : Drawing) {x : Option RawOffsetResult} → finished x (held l' m') ≡ built_of room d (held l m) → SameLoans l m l' m'
+  unfolding built_of when◌give◌else◌
+  built-same d {x} h = by (all_finite d.vertices) h
+    where
+      by : (t : Bool) → finished x (held l' m') ≡ when t give finished (Some (result_of d)) (showing room d (held l m)) else finished None (showing room nothing (held l m)) → SameLoans l m l' m'
+      by true e = held_same l l' m m' room d (ap (λ (y : Finished). y.buffers) e)
+      by false e = held_same l l' m m' room nothing (ap (λ (y : Finished). y.buffers) e)
 
   module _ (closed : Bool) (σ : Settings) (vs : List PlineVertex) where
-    pub drawn-ends : first_of (repeat_tests closed vs) ≡ Nowhere → {x : Built} → finished x (held c xs' ys' bs' f' i' o') ≡ built_of room (drawing_of closed σ vs) (held c xs ys bs f i o)
-        → ending (answered x) (buffers (lent_by c xs' ys' bs') f' i' (origins_in o')) ≡ placed room (distinct_verdict closed σ vs) lent
+    pub drawn-ends : first_of (repeat_tests closed vs) ≡ None → {x : Option RawOffsetResult} → finished x (held l' m') ≡ built_of room (drawing_of closed σ vs) (held l m)
+        → ending (answered x) (lent l' m') ≡ placed room (distinct_verdict closed σ vs) (lent l m)
     unfolding distinct_verdict
-    drawn-ends e h = built-ends (drawing_of closed σ vs) h ∙ ap (λ x. placed room x lent) (not_found _ _ _ e refl)
+    drawn-ends e h = built-ends (drawing_of closed σ vs) h ∙ ap (λ x. placed room x (lent l m)) (not_found _ _ _ e refl)
 
-pub repeated-ends : (closed : Bool) (σ : Settings) (vs : List PlineVertex) (room : ℕ) (old : Buffers) (k : ℕ) → first_of (repeat_tests closed vs) ≡ At k
-    → ending (Refused (Repeated k)) old ≡ placed room (distinct_verdict closed σ vs) old
+pub repeated-ends : (closed : Bool) (σ : Settings) (vs : List PlineVertex) (room : ℕ) (old : Buffers) (k : ℕ) → first_of (repeat_tests closed vs) ≡ Some k
+    → ending (Err (Repeated k)) old ≡ placed room (distinct_verdict closed σ vs) old
 unfolding distinct_verdict
 repeated-ends closed σ vs room old k e = unchanged (Repeated k) _ old (λ e. omega arith) ∙ ap (λ x. placed room x old) (found _ k _ _ e)

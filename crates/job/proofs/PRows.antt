@@ -5,6 +5,7 @@ use mathlib.Core.Bool.{Bool, true, false}
 use Prim.Native.Nat.{ℕ, ◌+◌, ◌*◌, ◌-◌, ◌/◌, ◌^◌}
 use lib.ListN.{length, replicate}
 use lib.Ieee.{Float, binary64, of_bits, round, neg, add, sub, mul, div, lt, le, eq}
+use Rattle.std.specs.Prelude.{Ok}
 use Rattle.floats.specs.Binary64.{zero, one, two, four, eight}
 use Rattle.floats.specs.Choice.{when◌give◌else◌, ◌and◌, ◌or◌}
 use Rattle.floats.specs.Size.{abs_of, within, finite}
@@ -30,7 +31,6 @@ use Rattle.sheet.specs.Buffers.{Buffers, buffers, flat, shown}
 use Rattle.source.specs.Source.{vertices_of, rows as lent, segments_of, around}
 use Rattle.refusals.specs.Limits.{inside, good_vertex, good_offset, good_eps, number_tests, repeats, neighbour_tests, repeat_tests, first_from}
 use Rattle.walk.specs.Walk.{join_at, walk, open_last, closed_last, last_vertex, closing_join, walk_start, walk_moves, walk_drawing, lone_collapsed, drawing_of}
-use Rattle.job.specs.declared.RawOffsetAnswer.TheVariants.{Done}
 use Rattle.job.specs.Verdict.{room_for, finite_verdict, distinct_verdict, roomy_verdict, verdict_of}
 use Rattle.job.specs.Job.{Outcome, has_room, job_of}
 
@@ -119,7 +119,7 @@ abbrev pub worked : Row → Outcome
 worked r = job_of (lent r.source) r.closed r.settings (before r)
 
 abbrev pub written : Row → Outcome
-written r = record { answer = Done (record { vertices = length r.vertices / 3; indexes = length r.indexes; closed = r.mark }); buffers = after r }
+written r = record { answer = Ok (record { vertices = length r.vertices / 3; indexes = length r.indexes; closed = r.mark }); buffers = after r }
 
 abbrev pub line : List Float
 line = at zero zero (at four zero [])

@@ -9,6 +9,7 @@ use borrow.Author.Tests.{ltb-true, ltb-false, leb-true, leb-false, lt-ltb, le-lt
 use lib.Dec.{T, ltb, leb}
 use lib.ListN.{length}
 use lib.Ieee.{eq}
+use Rattle.std.specs.Prelude.{Err, None, Option, Some}
 use Rattle.floats.specs.Binary64.{zero}
 use Rattle.floats.specs.Choice.{when◌give◌else◌, ◌and◌}
 use Rattle.floats.proofs.Choice.{yes, no, either_fails, both_pass}
@@ -18,8 +19,6 @@ use Rattle.source.specs.Source.{vertices_in, Whole, is_whole}
 use Rattle.source.proofs.Source.{whole-told, whole_passes}
 use Rattle.refusals.specs.declared.Refusal.{Refusal}
 use Rattle.refusals.specs.declared.Refusal.TheVariants.{Ragged, TooMany, BadNumber, NoRoom, Repeated, NotFinite}
-use Rattle.refusals.specs.declared.Place.{Place}
-use Rattle.refusals.specs.declared.Place.TheVariants.{Nowhere, At}
 use Rattle.refusals.specs.Limits.{number_tests, repeat_tests, first_of}
 use Rattle.refusals.proofs.First.{by_test}
 use Rattle.refusals.proofs.NumberRow.{number-row, number_nowhere}
@@ -30,21 +29,20 @@ use Rattle.moves.specs.Drawing.{Drawing, nothing, all_finite}
 use Rattle.sheet.specs.Buffers.{Buffers}
 use Rattle.walk.specs.Walk.{drawing_of, copied}
 use Rattle.job.specs.Verdict.{Verdict, refused, drawn, refuse◌at◌else◌, room_for, finite_verdict, distinct_verdict, roomy_verdict, verdict_of}
-use Rattle.job.specs.declared.RawOffsetAnswer.TheVariants.{Refused}
 use Rattle.job.specs.Job.{Outcome, ending, after_refusal, placed, has_room, job_of}
 use Rattle.job.specs.Rows.{Job, outcome, count, fit, places, Countable, Numbers, Roomy, Distinct, Row1, Row2, Row3, Short, vertices, flags, indexes, origins, Row4, Row5, Row6}
 use Rattle.job.proofs.Endless.{fails→holds, holds→fails}
 
 -- ---- a search that found a place, and one that did not
 
-by_place : {X : Type 0} (p : Place) → ((k : ℕ) → p ≡ At k → X) → (p ≡ Nowhere → X) → X
-by_place (At k) f g = f k refl
-by_place Nowhere f g = g refl
+by_place : {X : Type 0} (p : Option ℕ) → ((k : ℕ) → p ≡ Some k → X) → (p ≡ None → X) → X
+by_place (Some k) f g = f k refl
+by_place None f g = g refl
 
-pub found : (p : Place) (k : ℕ) (r : ℕ → Refusal) (next : Verdict) → p ≡ At k → refused (r k) ≡ refuse r at p else next
+pub found : (p : Option ℕ) (k : ℕ) (r : ℕ → Refusal) (next : Verdict) → p ≡ Some k → refused (r k) ≡ refuse r at p else next
 found p k r next e = rw e
 
-pub not_found : (p : Place) (r : ℕ → Refusal) (next : Verdict) {v : Verdict} → p ≡ Nowhere → v ≡ next → v ≡ refuse r at p else next
+pub not_found : (p : Option ℕ) (r : ℕ → Refusal) (next : Verdict) {v : Verdict} → p ≡ None → v ≡ next → v ≡ refuse r at p else next
 not_found p r next e q = rw e q
 
 -- ---- what a refusal other than No. 6 leaves
@@ -53,8 +51,8 @@ pub as_was : (r : Refusal) (room : ℕ) (old : Buffers) → (number_of r ≡ 6 �
 unfolding after_refusal
 as_was r room old h = sym (no _ _ _ (ne_eqb _ _ h) refl)
 
-pub unchanged : (r : Refusal) (room : ℕ) (old : Buffers) → (number_of r ≡ 6 → ⊥) → ending (Refused r) old ≡ placed room (refused r) old
-unchanged r room old h = ap (ending (Refused r)) (sym (as_was r room old h))
+pub unchanged : (r : Refusal) (room : ℕ) (old : Buffers) → (number_of r ≡ 6 → ⊥) → ending (Err r) old ≡ placed room (refused r) old
+unchanged r room old h = ap (ending (Err r)) (sym (as_was r room old h))
 
 -- ---- room
 

@@ -8,7 +8,8 @@ use lib.Ieee.{eq}
 use Rattle.floats.specs.Binary64.{zero}
 use Rattle.moves.specs.Drawing.{all_finite}
 use Rattle.job.specs.Verdict.{drawn}
-use Rattle.job.specs.Job.{number, placed}
+use Rattle.job.specs.Job.{placed}
+use Rattle.refusals.specs.Table.{number}
 use Rattle.job.specs.Rows.{Job, outcome, count, places, Numbers}
 use Rattle.job.proofs.Ways.{Way, ragged, many, bad, few, tight, copy, repeated, endless, whole, leads_to, way, ends, drawing}
 

@@ -2,7 +2,8 @@
 use Rattle.std.specs.Prelude.{◌≡◌, ◌↔◌, ℕ, ◌≤◌}
 use Rattle.moves.specs.Drawing.{nothing, empty_result}
 use Rattle.sheet.specs.Buffers.{shown}
-use Rattle.job.specs.Job.{number, place, result_in}
+use Rattle.job.specs.Job.{result_in}
+use Rattle.refusals.specs.Table.{number, place}
 use Rattle.job.specs.Rows.{Job, outcome, places, Given, Row1, Row2, Row3, Row4, Row5, Row6}
 
 -- no row holds

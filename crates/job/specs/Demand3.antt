@@ -1,6 +1,6 @@
 -- Demand 3: what is claimed of an accepted job with a nonzero offset and two vertices or more, but of a lone collapsed arc. It speaks of the answer and of the buffers
 -- that the contract names. Proved in `proofs/Demand3.antt`. Definitions only.
-use Rattle.std.specs.Prelude.{◌≡◌, Bool, true, false, ◌+◌, ◌≤◌, ◌<◌, T, length, Float}
+use Rattle.std.specs.Prelude.{Ok, ◌≡◌, Bool, true, false, ◌+◌, ◌≤◌, ◌<◌, T, length, Float}
 use mathlib.Core.List.{List, [], ◌∷◌, ◌++◌, map, Memᴰ}
 use Rattle.std.specs.Float.Ieee.{eq, lt, le}
 use Rattle.floats.specs.Binary64.{zero, one}
@@ -19,8 +19,8 @@ use Rattle.moves.specs.Choice.{OneChoice, Apart}
 use Rattle.moves.specs.Sound.{Sound, invalids}
 use Rattle.sheet.specs.Buffers.{shown}
 use Rattle.walk.specs.Walk.{walk_start, walk_moves, lone_collapsed}
-use Rattle.job.specs.declared.RawOffsetAnswer.TheVariants.{Done}
-use Rattle.job.specs.Job.{number, result_in}
+use Rattle.job.specs.Job.{result_in}
+use Rattle.refusals.specs.Table.{number}
 use Rattle.job.specs.Rows.{Job, outcome, count, places}
 
 -- ---- of which jobs
@@ -84,7 +84,7 @@ pub record Demand3 (j : Job) : Type 0 where
   pub choice : OneChoice move_end (close j) start moves ks
   -- the output, in the answer and in the first places of the buffers, is that choice with the closing rule
   pub drawing : Drawing
-  pub answer : (outcome j).answer ≡ Done (result_of drawing)
+  pub answer : (outcome j).answer ≡ Ok (result_of drawing)
   pub buffers : (outcome j).buffers ≡ shown (places j) drawing j.buffers
   pub room : length drawing.vertices ≤ places j
   pub opened : j.closed ≡ false → OpenOutput j start ks drawing

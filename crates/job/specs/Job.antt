@@ -1,39 +1,28 @@
 -- The whole job, in rows or in columns (01 §1; 02's 2026-08): the answer, and what the buffers hold afterwards. A source with a number left over is refused; of any other the
 -- verdict over its vertices is placed in the buffers. Definitions only.
-use Rattle.std.specs.Prelude.{ℕ, Bool, not, leb, eqb, length}
+use Rattle.std.specs.Prelude.{Err, Ok, Result, ℕ, Bool, not, leb, eqb, length}
 use Rattle.floats.specs.Choice.{when◌give◌else◌, ◌and◌}
 use Rattle.segments.specs.declared.Settings.{Settings}
 use Rattle.source.specs.Source.{Lent, vertices_in, is_whole}
 use Rattle.refusals.specs.declared.Refusal.{Refusal}
 use Rattle.refusals.specs.declared.Refusal.TheVariants.{Ragged}
-use Rattle.refusals.specs.Table.{number_of, place_of}
+use Rattle.refusals.specs.Table.{number_of}
 use Rattle.moves.specs.declared.RawOffsetResult.{RawOffsetResult}
 use Rattle.moves.specs.Drawing.{nothing, empty_result, result_of}
 use Rattle.sheet.specs.Buffers.{Buffers, shown}
-use Rattle.job.specs.declared.RawOffsetAnswer.{RawOffsetAnswer}
-use Rattle.job.specs.declared.RawOffsetAnswer.TheVariants.{Done, Refused}
 use Rattle.job.specs.Verdict.{Verdict, refused, drawn, room_for, verdict_of}
 
--- 01's number, place, counts of vertices and of indexes, and closed mark, for each answer
-abbrev pub number : RawOffsetAnswer → ℕ
-number (Done r) = 0
-number (Refused r) = number_of r
-
-abbrev pub place : RawOffsetAnswer → ℕ
-place (Done r) = 0
-place (Refused r) = place_of r
-
 -- a refusal has counts 0 and is open
-abbrev pub result_in : RawOffsetAnswer → RawOffsetResult
-result_in (Done r) = r
-result_in (Refused r) = empty_result
+abbrev pub result_in : Result RawOffsetResult Refusal → RawOffsetResult
+result_in (Ok r) = r
+result_in (Err r) = empty_result
 
 -- how a job ends: its answer, and what the buffers hold
 pub record Outcome : Type 0 where
-  pub answer : RawOffsetAnswer
+  pub answer : Result RawOffsetResult Refusal
   pub buffers : Buffers
 
-abbrev pub ending : RawOffsetAnswer → Buffers → Outcome
+abbrev pub ending : Result RawOffsetResult Refusal → Buffers → Outcome
 ending a b = record { answer = a; buffers = b }
 
 -- what a refusal leaves: No. 6 zeros up to the room, any other all as it was
@@ -42,8 +31,8 @@ after_refusal r room old = when eqb (number_of r) 6 give shown room nothing old 
 
 -- a verdict in the first `room` places of the buffers
 abbrev pub placed : ℕ → Verdict → Buffers → Outcome
-placed room (refused r) old = ending (Refused r) (after_refusal r room old)
-placed room (drawn d) old = ending (Done (result_of d)) (shown room d old)
+placed room (refused r) old = ending (Err r) (after_refusal r room old)
+placed room (drawn d) old = ending (Ok (result_of d)) (shown room d old)
 
 -- so many vertices, flags, indexes and origins fit: the vertices by as many as the lent numbers make, in rows a third of them, rounded down, in columns the shortest
 unfoldable pub has_room : Buffers → ℕ → Bool

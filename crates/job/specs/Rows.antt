@@ -10,7 +10,8 @@ use Rattle.source.specs.Source.{Lent, vertices_in, Whole, segments_of}
 use Rattle.refusals.specs.Rows.{NumberRow, RepeatedRow}
 use Rattle.sheet.specs.Buffers.{Buffers, flat}
 use Rattle.walk.specs.Walk.{moves_a_segment, drawing_of}
-use Rattle.job.specs.Job.{Outcome, job_of, number, place}
+use Rattle.job.specs.Job.{Outcome, job_of}
+use Rattle.refusals.specs.Table.{number, place}
 
 -- what comes into a job
 pub record Job : Type 0 where

@@ -1,6 +1,6 @@
 -- What becomes of a job, over the list of its vertices and whatever the layout: a refusal, or a drawing. The tests of 01 §1 from No. 2 on, in their order.
 -- Definitions only.
-use Rattle.std.specs.Prelude.{ℕ, ◌*◌, List, Bool, not, ltb, length}
+use Rattle.std.specs.Prelude.{None, Option, Some, ℕ, ◌*◌, List, Bool, not, ltb, length}
 use Rattle.std.specs.Float.Ieee.{eq}
 use Rattle.floats.specs.Binary64.{zero}
 use Rattle.floats.specs.Choice.{when◌give◌else◌}
@@ -10,8 +10,6 @@ use Rattle.segments.specs.declared.PlineVertex.{PlineVertex}
 use Rattle.source.specs.Source.{segments_of}
 use Rattle.refusals.specs.declared.Refusal.{Refusal}
 use Rattle.refusals.specs.declared.Refusal.TheVariants.{TooMany, BadNumber, NoRoom, Repeated, NotFinite}
-use Rattle.refusals.specs.declared.Place.{Place}
-use Rattle.refusals.specs.declared.Place.TheVariants.{Nowhere, At}
 use Rattle.refusals.specs.Limits.{number_tests, repeat_tests, first_of}
 use Rattle.moves.specs.Drawing.{Drawing, nothing, all_finite}
 use Rattle.walk.specs.Walk.{moves_a_segment, drawing_of, copied}
@@ -22,9 +20,9 @@ pub data Verdict : Type 0 where
 
 infixr 5 refuse◌at◌else◌
 -- a refusal at the place that a search found, and else what follows
-abbrev pub refuse◌at◌else◌ : (ℕ → Refusal) → Place → Verdict → Verdict
-refuse r at At k else next = refused (r k)
-refuse r at Nowhere else next = next
+abbrev pub refuse◌at◌else◌ : (ℕ → Refusal) → Option ℕ → Verdict → Verdict
+refuse r at Some k else next = refused (r k)
+refuse r at None else next = next
 
 -- 01's 2n, and 3n in the pointed mode
 unfoldable pub room_for : Corners → Bool → ℕ → ℕ

@@ -33,7 +33,8 @@ use Rattle.sheet.proofs.Products.{product_most}
 use Rattle.walk.proofs.Origins.{drawing_never_falls, drawing-below, length_spans, spans_climb, spans_below}
 use Rattle.sheet.specs.Buffers.{padded, no_origin, shown}
 use Rattle.job.specs.Verdict.{drawn}
-use Rattle.job.specs.Job.{number, placed}
+use Rattle.job.specs.Job.{placed}
+use Rattle.refusals.specs.Table.{number}
 use Rattle.job.specs.Rows.{Job, outcome, count, places, Numbers, Roomy}
 use Rattle.job.proofs.Ways.{Way, ragged, many, bad, few, tight, copy, repeated, endless, whole, points, drawing, leads_to, way, ends}
 use Rattle.part.specs.Part.{part_at, part_of}

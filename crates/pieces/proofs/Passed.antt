@@ -29,7 +29,8 @@ use Rattle.walk.specs.Walk.{walk_drawing, lone_collapsed, drawing_of, copied}
 use Rattle.walk.proofs.Lengths.{open_drawing}
 use Rattle.walk.proofs.Origins.{length_spans}
 use Rattle.job.specs.Verdict.{drawn}
-use Rattle.job.specs.Job.{Outcome, number, result_in, placed}
+use Rattle.job.specs.Job.{Outcome, result_in, placed}
+use Rattle.refusals.specs.Table.{number}
 use Rattle.job.specs.Rows.{Job, outcome, count, fit, places, Numbers}
 use Rattle.job.proofs.Ways.{points, Way, ragged, many, bad, few, tight, copy, repeated, endless, whole, leads_to, way, ends}
 use Rattle.course.specs.Joined.{drawn_whole}

@@ -7,7 +7,8 @@ use Rattle.source.specs.Source.{rows, vertices_of, vertices_in, Whole}
 use Rattle.moves.specs.Drawing.{Drawing, nothing}
 use Rattle.walk.specs.Walk.{moves_a_segment}
 use Rattle.sheet.specs.Buffers.{Buffers}
-use Rattle.job.specs.Job.{number, result_in, has_room}
+use Rattle.job.specs.Job.{result_in, has_room}
+use Rattle.refusals.specs.Table.{number}
 use Rattle.job.specs.Rows.{Job, outcome}
 use Rattle.course.specs.Course.{◌then◌}
 use Rattle.course.specs.Joined.{drawn_whole, Beginning}

@@ -17,7 +17,8 @@ use Rattle.moves.proofs.Origins.{origins-length}
 use Rattle.sheet.specs.Buffers.{Buffers}
 use Rattle.job.specs.declared.RawOffsetAnswer.{RawOffsetAnswer}
 use Rattle.job.specs.declared.RawOffsetAnswer.TheVariants.{Done, Refused}
-use Rattle.job.specs.Job.{Outcome, number, ending}
+use Rattle.job.specs.Job.{Outcome, ending}
+use Rattle.refusals.specs.Table.{number}
 use Rattle.floats.specs.Binary64.{zero}
 use Rattle.source.proofs.Source.{length-vertices}
 use Rattle.job.specs.Rows.{Job, outcome, count, places, Given, Short, vertices, flags, indexes, origins}

@@ -20,7 +20,8 @@ use Rattle.moves.specs.declared.RawOffsetResult.{RawOffsetResult}
 use Rattle.sheet.specs.Buffers.{Buffers}
 use Rattle.sheet.proofs.Products.{product_most}
 use Rattle.job.specs.declared.RawOffsetAnswer.{RawOffsetAnswer}
-use Rattle.job.specs.Job.{Outcome, number, place, result_in, ending, job_of}
+use Rattle.job.specs.Job.{Outcome, result_in, ending, job_of}
+use Rattle.refusals.specs.Table.{number, place}
 use Rattle.walk.specs.Walk.{moves_a_segment}
 use Rattle.job.specs.Rows.{Job, count, places}
 use Rattle.job.proofs.Fits.{vertices-fit}

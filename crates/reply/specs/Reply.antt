@@ -11,7 +11,8 @@ use Rattle.moves.specs.declared.Origin.{Origin}
 use Rattle.moves.specs.declared.RawOffsetResult.{RawOffsetResult}
 use Rattle.moves.specs.Origins.{origins_in}
 use Rattle.sheet.specs.Buffers.{Buffers, buffers}
-use Rattle.job.specs.Job.{Outcome, number, place, result_in, job_of}
+use Rattle.job.specs.Job.{Outcome, result_in, job_of}
+use Rattle.refusals.specs.Table.{number, place}
 use Rattle.job.specs.Layouts.{interleaved}
 use Rattle.packed.specs.declared.unpacked.Form.{Form}
 use Rattle.packed.specs.declared.unpacked.Form.TheVariants.{Round, Pointed, Either}

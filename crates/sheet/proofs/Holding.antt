@@ -14,7 +14,7 @@ use Rattle.source.proofs.Source.{length-vertices, length-columns, row_within, co
 use Rattle.moves.specs.Origins.{origins_in}
 use Rattle.moves.specs.Drawing.{Drawing}
 use Rattle.sheet.specs.Buffers.{buffers, flat, xs_of, ys_of, bulges_of, padded, laid_in, shown}
-use Rattle.sheet.specs.InnerSteps.{Loans, Loaned, beyond, Held, held_by, Contents, held, fitting, making, blank, showing, put_at, bulging, bulge_at}
+use Rattle.sheet.specs.InnerSteps.{Loans, Loaned, loans_of, lent, SameLoans, beyond, Held, held_by, Contents, held, fitting, making, blank, showing, put_at, bulging, bulge_at}
 use Rattle.sheet.specs.declared.lent.Marks.{Marks}
 use Rattle.sheet.proofs.Flat.{flat_append, length-flat}
 
@@ -261,7 +261,7 @@ lent-shown l l' room vs fits e = sym (joined-held l') ∙ ap joined e ∙ padded
 
 -- buffers that hold a drawing so are those in which it is shown
 pub held-shown : (l l' : Loaned) (m m' : Marks) (room : ℕ) (d : Drawing) → room ≤ fitting (held l m) → held l' m' ≡ showing room d (held l m)
-    → buffers l'.numbers m'.flags.now m'.indexes.now (origins_in m'.origins.now) ≡ shown room d (buffers l.numbers m.flags.now m.indexes.now (origins_in m.origins.now))
+    → lent l' m' ≡ shown room d (lent l m)
 unfolding showing shown
 held-shown l l' m m' room d fits e =
     let v = lent-shown l l' room d.vertices fits (ap (λ (b : Contents). b.vertices) e) in
@@ -269,6 +269,11 @@ held-shown l l' m m' room d fits e =
     let indexes = ap (λ (b : Contents). b.indexes) e in
     let origins = ap (λ (b : Contents). b.origins) e in
     rw (v, flags, indexes, origins)
+
+-- and they are lent by the same references
+pub held_same : (l l' : Loaned) (m m' : Marks) (room : ℕ) (d : Drawing) → held l' m' ≡ showing room d (held l m) → SameLoans l m l' m'
+unfolding showing held_by
+held_same l l' m m' room d e = record { vertices = ap (λ (b : Contents). b.vertices.loans) e; marks = ap (λ (b : Contents). b.loans) e }
 
 -- lists in which vertices are laid hold them, and the same numbers beyond
 

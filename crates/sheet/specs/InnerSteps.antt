@@ -33,7 +33,7 @@ use Rattle.sheet.specs.declared.Later.{Later}
 use Rattle.sheet.specs.declared.Sheet.{Sheet}
 use Rattle.sheet.specs.declared.lent.Marks.{Marks}
 use Rattle.moves.specs.Origins.{origins_in}
-use Rattle.sheet.specs.Buffers.{padded, no_origin}
+use Rattle.sheet.specs.Buffers.{Buffers, buffers, padded, no_origin}
 
 -- ---- what the buffers hold
 
@@ -84,6 +84,15 @@ contents v f i o l = record { vertices = v; flags = f; indexes = i; origins = o;
 
 abbrev pub held : Loaned → Marks → Contents
 held v m = contents (held_by v) m.flags.now m.indexes.now (origins_in m.origins.now) (loans_of m)
+
+-- what they hold as lent numbers and lists
+abbrev pub lent : Loaned → Marks → Buffers
+lent v m = buffers v.numbers m.flags.now m.indexes.now (origins_in m.origins.now)
+
+-- lent by the same references
+pub record SameLoans (v : Loaned) (m : Marks) (v' : Loaned) (m' : Marks) : Type 0 where
+  pub vertices : v'.loans ≡ v.loans
+  pub marks : loans_of m' ≡ loans_of m
 
 -- so many vertices fit
 abbrev pub fitting : Contents → ℕ

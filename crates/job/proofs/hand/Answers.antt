@@ -6,4 +6,4 @@ use Rattle.job.proofs.hand.Goals as goal
 pub returns : goal.returns
 unfolding five_of
 returns c =
-    (c.number-n.ensures, rw (byte_bit c.result-r.result.closed, c.number-n.ensures, c.place-k.ensures, c.result-r.ensures))
+    (c.number-n.ensures, rw (byte_bit c.result_in-r.result.closed, c.number-n.ensures, c.place-k.ensures, c.result_in-r.ensures))

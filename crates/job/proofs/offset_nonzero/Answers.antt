@@ -1,30 +1,19 @@
 -- `job::offset_nonzero` meets its contract. Assumes nothing.
 use mathlib.Core.Path.{sym, ◌∙◌}
-use Rattle.job.proofs.Ends.{repeated-ends, drawn-ends}
+use Rattle.walk.specs.Walk.{drawing_of}
+use Rattle.source.specs.Source.{vertices_in}
+use Rattle.job.proofs.Ends.{repeated-ends, drawn-ends, built-same}
 use Rattle.job.proofs.offset_nonzero.Goals as goal
 
-pub first_repeated-repeated-requires : goal.first_repeated-repeated-requires
-first_repeated-repeated-requires c = let r = c.requires.ready in
-    record {
-      le_v = r.two;
-      v_bound = r.most;
-      v_value = r.long;
-    }
+pub returns-in-Some-clause-ending : goal.returns-in-Some-clause-ending
+returns-in-Some-clause-ending g c =
+    repeated-ends _ _ _ _ _ _ (sym c.first_repeated.ensures ∙ c.in-Some.is)
 
-pub returns-in-At : goal.returns-in-At
-returns-in-At c =
-    repeated-ends _ _ _ _ _ _ (sym c.first_repeated-repeated.ensures ∙ c.in-At.is)
+pub returns-clause-ending : goal.returns-clause-ending
+returns-clause-ending g c =
+    let nowhere = sym c.first_repeated.ensures ∙ c.in_default.is in
+    rw c.ok_or.ensures.value (drawn-ends _ _ c.args.marks.now c.draw.new.marks _ c.requires.ready.vertices _ _ _ nowhere c.draw.ensures)
 
-pub draw-built-requires : goal.draw-built-requires
-draw-built-requires c =
-    c.requires
-
-pub returns-in-Done : goal.returns-in-Done
-returns-in-Done c =
-    let nowhere = sym c.first_repeated-repeated.ensures ∙ c.in_default.is in
-    rw c.in-Done.is at (drawn-ends _ _ _ _ _ _ _ _ _ _ _ _ _ _ c.requires.ready.vertices _ _ _ nowhere c.draw-built.ensures)
-
-pub returns-in-NotFinite : goal.returns-in-NotFinite
-returns-in-NotFinite c =
-    let nowhere = sym c.first_repeated-repeated.ensures ∙ c.in_default.is in
-    rw c.in-NotFinite.is at (drawn-ends _ _ _ _ _ _ _ _ _ _ _ _ _ _ c.requires.ready.vertices _ _ _ nowhere c.draw-built.ensures)
+pub returns-clause-same_loans : goal.returns-clause-same_loans
+returns-clause-same_loans g c =
+    built-same _ _ c.args.marks.now c.draw.new.marks _ c.requires.ready.vertices (drawing_of c.args.closed c.args.settings (vertices_in (g.S.Vertices.lent c.args.source))) c.draw.ensures
