@@ -10,7 +10,7 @@ ghost use Rattle.sheet.specs.Buffers.{buffers};
 ghost use Rattle.job.specs.Job.{job_of};
 ghost use Rattle.job.specs.Handed.{handed, handed_of};
 
-use segments::Settings;
+use job::Round;
 use sheet::{ColumnsMut, Marks};
 use source::Columns;
 
@@ -37,7 +37,6 @@ pub extern "C" fn blidrosk_raw_offset_columns(
         ≡ handed_of (job_of (columns xs.now ys.now bulges.now) closed (round_by offset eps)
         (buffers (columns outxs.old outys.old outbulges.old) flags.old indexes.old (origins_in origins.old))) }
 {
-    let settings = Settings::round(offset, eps);
     let source = Columns { xs, ys, bulges };
     let mut columns = ColumnsMut {
         xs: outxs,
@@ -49,6 +48,6 @@ pub extern "C" fn blidrosk_raw_offset_columns(
         indexes,
         origins,
     };
-    let a = job::create_raw_offset(source, closed, settings, &mut columns, &mut marks);
+    let a = job::create_raw_offset(source, closed, offset, eps, Round, &mut columns, &mut marks);
     job::hand(a, answer)
 }

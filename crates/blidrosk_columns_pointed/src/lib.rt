@@ -10,7 +10,7 @@ ghost use Rattle.sheet.specs.Buffers.{buffers};
 ghost use Rattle.job.specs.Job.{job_of};
 ghost use Rattle.job.specs.Handed.{handed, handed_of};
 
-use segments::Settings;
+use job::Pointed;
 use sheet::{ColumnsMut, Marks};
 use source::Columns;
 
@@ -38,7 +38,6 @@ pub extern "C" fn blidrosk_raw_offset_columns_pointed(
         ≡ handed_of (job_of (columns xs.now ys.now bulges.now) closed (pointed_by offset eps ratio)
         (buffers (columns outxs.old outys.old outbulges.old) flags.old indexes.old (origins_in origins.old))) }
 {
-    let settings = Settings::pointed(offset, eps, ratio);
     let source = Columns { xs, ys, bulges };
     let mut columns = ColumnsMut {
         xs: outxs,
@@ -50,6 +49,6 @@ pub extern "C" fn blidrosk_raw_offset_columns_pointed(
         indexes,
         origins,
     };
-    let a = job::create_raw_offset(source, closed, settings, &mut columns, &mut marks);
+    let a = job::create_raw_offset(source, closed, offset, eps, Pointed { ratio }, &mut columns, &mut marks);
     job::hand(a, answer)
 }

@@ -10,7 +10,7 @@ ghost use Rattle.sheet.specs.Buffers.{buffers};
 ghost use Rattle.job.specs.Job.{job_of};
 ghost use Rattle.job.specs.Handed.{handed, handed_of};
 
-use segments::Settings;
+use job::Pointed;
 use sheet::{Marks, RowsMut};
 use source::Rows;
 
@@ -32,13 +32,12 @@ pub extern "C" fn blidrosk_raw_offset_pointed(
     ensures { handed result answer.new (buffers (rows vertices.new) flags.new indexes.new (origins_in origins.new))
         ≡ handed_of (job_of (rows source.now) closed (pointed_by offset eps ratio) (buffers (rows vertices.old) flags.old indexes.old (origins_in origins.old))) }
 {
-    let settings = Settings::pointed(offset, eps, ratio);
     let mut rows = RowsMut(vertices);
     let mut marks = Marks {
         flags,
         indexes,
         origins,
     };
-    let a = job::create_raw_offset(Rows(source), closed, settings, &mut rows, &mut marks);
+    let a = job::create_raw_offset(Rows(source), closed, offset, eps, Pointed { ratio }, &mut rows, &mut marks);
     job::hand(a, answer)
 }

@@ -1,10 +1,15 @@
 -- What the job's inner steps need, and what they make of it. No rule rests on these. Definitions only.
-use Rattle.std.specs.Prelude.{◌≡◌, ℕ, ◌≤◌, List, Bool, true, false, length}
+use Rattle.std.specs.Prelude.{◌≡◌, ℕ, ◌≤◌, List, Bool, true, false, length, Float}
+use Rattle.segments.specs.declared.Corners.{Corners}
 use Rattle.segments.specs.declared.Settings.{Settings}
 use Rattle.segments.specs.declared.PlineVertex.{PlineVertex}
 use Rattle.sheet.specs.Buffers.{Buffers}
 use Rattle.job.specs.Verdict.{room_for, roomy_verdict}
 use Rattle.job.specs.Job.{Outcome, placed, has_room}
+
+-- settings with the corners that a mode stands for
+abbrev pub settings_by : Float → Float → Corners → Settings
+settings_by offset ε c = record { offset = offset; eps = ε; corners = c }
 
 -- the moves of a segment at most, by whether corners are pointed
 abbrev pub moves_if : Bool → ℕ

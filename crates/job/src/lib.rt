@@ -1,6 +1,8 @@
 // The raw offset of a drawing: the job, with its refusals.
 #![tactic(auto)]
 
+mod mode;
+
 ghost use Rattle.std.specs.Prelude.{◌≡◌, ◌≤◌, leb, length};
 ghost use Rattle.floats.specs.Choice.{◌and◌};
 ghost use Rattle.segments.specs.Modes.{are_pointed};
@@ -10,8 +12,9 @@ ghost use Rattle.refusals.specs.Table.{number};
 ghost use Rattle.job.specs.Handed.{five_of};
 ghost use Rattle.job.specs.Verdict.{distinct_verdict};
 ghost use Rattle.job.specs.Job.{result_in, ending, placed, job_of};
-ghost use Rattle.job.specs.InnerSteps.{moves_if, Counted, from_room};
+ghost use Rattle.job.specs.InnerSteps.{settings_by, moves_if, Counted, from_room};
 
+pub use mode::{Mode, Pointed, Round};
 use moves::RawOffsetResult;
 use refusals::{Answer, MOST_VERTICES, Refusal};
 use segments::Settings;
@@ -49,15 +52,17 @@ pub fn moves_a_segment(pointed: bool) -> usize
 
 // Offsets a drawing into the lent buffers, in either layout and with either corners. Any numbers may come in;
 // the answer says what became of the job.
-pub fn create_raw_offset<S: Vertices, V: VerticesMut>(
+pub fn create_raw_offset<S: Vertices, V: VerticesMut, M: Mode>(
     source: S,
     closed: bool,
-    settings: Settings,
+    offset: f64,
+    eps: f64,
+    mode: M,
     vertices: &mut V,
     marks: &mut Marks,
 ) -> RawOffsetAnswer
     ensures ending { ending result (lent (V.lent vertices.new) marks.new)
-        ≡ job_of (S.lent source) closed settings (lent (V.lent vertices.old) marks.old) }
+        ≡ job_of (S.lent source) closed (settings_by offset eps (M.made mode)) (lent (V.lent vertices.old) marks.old) }
     ensures same_loans { SameLoans (V.lent vertices.old) marks.old (V.lent vertices.new) marks.new }
 {
     if !source.is_whole() {
@@ -67,14 +72,18 @@ pub fn create_raw_offset<S: Vertices, V: VerticesMut>(
     if MOST_VERTICES < v {
         return Err(Refusal::TooMany);
     }
+    let settings = Settings {
+        offset,
+        eps,
+        corners: mode.corners(),
+    };
     if let Some(k) = refusals::first_bad_number(source, settings) {
         return Err(Refusal::BadNumber(k));
     }
     if v < 2 {
         return Ok(RawOffsetResult::empty());
     }
-    let pointed = settings.corners.are_pointed();
-    offset_good(source, closed, settings, pointed, vertices, marks)
+    offset_good(source, closed, settings, mode.is_pointed(), vertices, marks)
 }
 
 pub fn has_room(room: usize, vertices: usize, flags: usize, indexes: usize, origins: usize) -> bool

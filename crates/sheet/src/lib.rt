@@ -58,6 +58,7 @@ impl Places {
 }
 
 // Stores a stroke, if it is drawn.
+#[inline(always)]
 pub fn store<V: VerticesMut>(
     vertices: &mut V,
     marks: &mut Marks,
@@ -142,6 +143,7 @@ pub struct Drawn {
 
 // A move, stored right after its step: a processor guesses which way it goes. Nothing is drawn while turns
 // lead in.
+#[inline(always)]
 fn store_move<V: VerticesMut>(
     vertices: &mut V,
     marks: &mut Marks,
@@ -167,6 +169,7 @@ fn store_move<V: VerticesMut>(
 
 // The first of two connectors, if the join has a tip: `connector` is the other. The mode is told beside:
 // in the round one there is none.
+#[inline(always)]
 fn store_tip<V: VerticesMut>(
     vertices: &mut V,
     marks: &mut Marks,
@@ -199,6 +202,7 @@ fn store_tip<V: VerticesMut>(
 }
 
 // The connectors of a join: to its tip, if it has one, and on to where the next span starts.
+#[inline(always)]
 fn store_connectors<V: VerticesMut>(
     vertices: &mut V,
     marks: &mut Marks,
@@ -239,6 +243,7 @@ pub struct Left {
 }
 
 // A turn's span, straight as yet, and its connectors.
+#[inline(always)]
 fn store_turn<V: VerticesMut>(
     vertices: &mut V,
     marks: &mut Marks,

@@ -1,5 +1,6 @@
 -- `job::create_raw_offset` meets its contract: its tests are those of the job, in their order. Assumes nothing.
-use mathlib.Core.Path.{refl, sym, ◌∙◌}
+use mathlib.Core.Path.{refl, sym, ap, ◌∙◌}
+use Rattle.segments.specs.Modes.{are_pointed}
 use Rattle.job.proofs.Ends.{told-ragged, told-whole, ragged-ends, many-ends, bad-ends, few-ends, good-ends}
 use Rattle.job.proofs.create_raw_offset.Goals as goal
 
@@ -13,21 +14,21 @@ returns-then-v-gt-MOST_VERTICES-clause-ending g c =
 
 pub returns-in-Some-clause-ending : goal.returns-in-Some-clause-ending
 returns-in-Some-clause-ending g c =
-    bad-ends _ _ _ _ (told-whole _ c.is_whole.ensures c.if-not-is_whole.false-raw) (rw c.count-v.ensures at c.if-v-gt-MOST_VERTICES.false) _ (sym c.first_bad_number.ensures ∙ c.in-Some.is)
+    rw (← c.corners.ensures) (bad-ends _ _ _ _ (told-whole _ c.is_whole.ensures c.if-not-is_whole.false-raw) (rw c.count-v.ensures at c.if-v-gt-MOST_VERTICES.false) _ (sym c.first_bad_number.ensures ∙ c.in-Some.is))
 
 pub returns-then-v-lt2-clause-ending : goal.returns-then-v-lt2-clause-ending
 returns-then-v-lt2-clause-ending g c =
     let n = c.count-v.ensures in
     let nowhere = sym c.first_bad_number.ensures ∙ c.in_default.is in
-    rw c.empty.ensures (few-ends _ _ _ _ (told-whole _ c.is_whole.ensures c.if-not-is_whole.false-raw) (rw n at c.if-v-gt-MOST_VERTICES.false) nowhere (rw n at c.if-v-lt2.true))
+    rw (c.empty.ensures, ← c.corners.ensures) (few-ends _ _ _ _ (told-whole _ c.is_whole.ensures c.if-not-is_whole.false-raw) (rw n at c.if-v-gt-MOST_VERTICES.false) nowhere (rw n at c.if-v-lt2.true))
 
 pub offset_good-requires : goal.offset_good-requires
 offset_good-requires g c =
     let n = c.count-v.ensures in
-    (record { long = refl; two = rw n at c.if-v-lt2.false; most = rw n at c.if-v-gt-MOST_VERTICES.false }, c.are_pointed-pointed.ensures)
+    (record { long = refl; two = rw n at c.if-v-lt2.false; most = rw n at c.if-v-gt-MOST_VERTICES.false }, c.is_pointed.ensures ∙ ap are_pointed (sym c.corners.ensures))
 
 pub returns-clause-ending : goal.returns-clause-ending
 returns-clause-ending g c =
     let n = c.count-v.ensures in
     let nowhere = sym c.first_bad_number.ensures ∙ c.in_default.is in
-    good-ends _ _ _ _ (told-whole _ c.is_whole.ensures c.if-not-is_whole.false-raw) (rw n at c.if-v-gt-MOST_VERTICES.false) nowhere (rw n at c.if-v-lt2.false) c.offset_good.ensures.ending
+    rw (← c.corners.ensures) (good-ends _ _ _ _ (told-whole _ c.is_whole.ensures c.if-not-is_whole.false-raw) (rw n at c.if-v-gt-MOST_VERTICES.false) nowhere (rw n at c.if-v-lt2.false) c.offset_good.ensures.ending)
