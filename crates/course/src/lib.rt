@@ -6,18 +6,19 @@
 ghost use Rattle.std.specs.Prelude.{◌≡◌, [], ◌+◌, ◌≤◌, ◌<◌, eqb, ltb};
 ghost use Rattle.floats.specs.Choice.{◌and◌};
 ghost use Rattle.segments.specs.Segment.{offset_seg, is_collapsed};
+ghost use Rattle.refusals.specs.Table.{number};
 ghost use Rattle.refusals.specs.Limits.{repeats};
 ghost use Rattle.moves.specs.Drawing.{finite_vertex, all_finite};
 ghost use Rattle.moves.specs.InnerSteps.{tip_first};
 ghost use Rattle.sheet.specs.InnerSteps.{Coded};
 ghost use Rattle.walk.specs.InnerSteps.{stood, Fit, drawn_by, strokes_by, pen_by};
 ghost use Rattle.course.specs.Course.{no_course, held, entered, turned, step_on, last_piece, end_piece};
-ghost use Rattle.course.specs.InnerSteps.{pen_in, entry_in, stood_in, vertices_by, copy_strokes, turn_strokes, step_strokes, strokes_in, Able, CodedAll, left_at, early, ending_piece, just_ending};
+ghost use Rattle.course.specs.InnerSteps.{pen_in, entry_in, stood_in, vertices_by, copy_strokes, turn_strokes, step_strokes, strokes_in, Able, CodedAll, left_at, checked, early, ending_piece, just_ending};
 
 use joins::{JoinBoundary, JoinCause};
 use meetings::ArcRule;
 use moves::{Move, Origin, Pen, Reason, Stepped, Stroke};
-use refusals::Refusal;
+use refusals::{MOST_VERTICES, Refusal};
 use segments::{CarriedSeg, OutputSegment, PlineVertex, Settings, SourceSegment};
 use vectors::Vector2;
 use walk::Walk;
@@ -44,15 +45,12 @@ pub struct Turning {
     pub connector: Stepped,
 }
 
-// What the end makes certain: the last span, drawn or not, and a last vertex, if it `ends` with one.
+// What the end makes certain: the last span, drawn or not, and a last vertex, if there is one.
 #[derive(Clone, Copy)]
 pub struct Ending {
     pub span: Stepped,
-    pub ends: bool,
-    pub vertex: PlineVertex,
+    pub last: Option<PlineVertex>,
 }
-
-const MOST_VERTICES: u32 = 4096;
 
 impl Course {
     // No vertex is taken.
@@ -281,23 +279,24 @@ impl Course {
         self.turned(c, settings, pointed)
     }
 
-    // The number of the refusal of c that is told before its strokes are, or 0.
-    pub fn early_refusal(self, c: PlineVertex, offset: f64) -> u32
-        ensures { result ≡ early offset self c }
+    // Whether c is refused before its strokes are known.
+    pub fn check(self, c: PlineVertex, offset: f64) -> Result<(), Refusal>
+        ensures value { result ≡ checked offset self c }
+        ensures told { number result ≡ early offset self c }
     {
-        if MOST_VERTICES <= self.taken {
-            return Refusal::TooMany.number();
+        if MOST_VERTICES <= self.taken as usize {
+            return Err(Refusal::TooMany);
         }
         if !refusals::good_vertex(c) {
-            return Refusal::BadNumber(self.taken).number();
+            return Err(Refusal::BadNumber(self.taken));
         }
         if offset == 0.0 {
-            return 0;
+            return Ok(());
         }
         if self.is_repeated(c) {
-            return Refusal::Repeated(self.taken).number();
+            return Err(Refusal::Repeated(self.taken));
         }
-        0
+        Ok(())
     }
 
     fn is_repeated(self, c: PlineVertex) -> bool
@@ -315,12 +314,11 @@ impl Course {
     }
 
     // No stroke, and a last vertex or none.
-    fn ending(self, ends: bool) -> Ending
-        ensures { (ending_piece result ≡ just_ending ends self.last) × Coded result.span.stroke.origin }
+    fn ending(self, last: Option<PlineVertex>) -> Ending
+        ensures { (ending_piece result ≡ just_ending last) × Coded result.span.stroke.origin }
     {
-        let vertex = self.last;
         let span = self.undrawn();
-        Ending { span, ends, vertex }
+        Ending { span, last }
     }
 
     // The last span, and the last point if anything is drawn at all.
@@ -329,17 +327,11 @@ impl Course {
         ensures { (ending_piece result ≡ last_piece settings self) × Coded result.span.stroke.origin }
     {
         let walk = self.walk(settings.offset);
-        let current = walk.current;
-        let before = walk.pen;
-        let span = before.step(walk.span_to(current.end(), 1.0), settings.eps);
-        let pen = span.pen;
-        let number = pen.number;
-        let vertex = PlineVertex::from_vector2(pen.last, 0.0);
-        Ending {
-            span,
-            ends: number.0 != 0,
-            vertex,
-        }
+        let end = walk.span_to(walk.current.end(), 1.0);
+        let span = walk.pen.step(end, settings.eps);
+        let vertex = PlineVertex::from_vector2(span.pen.last, 0.0);
+        let last = (span.pen.number.0 != 0).then_some(vertex);
+        Ending { span, last }
     }
 
     // What the end makes certain.
@@ -348,13 +340,13 @@ impl Course {
         ensures { (ending_piece result ≡ end_piece settings self) × Coded result.span.stroke.origin }
     {
         if self.taken < 2 {
-            return self.ending(false);
+            return self.ending(None);
         }
         if settings.offset == 0.0 {
-            return self.ending(true);
+            return self.ending(Some(self.last));
         }
         if self.is_lone_collapsed(settings.offset) {
-            return self.ending(false);
+            return self.ending(None);
         }
         self.last_span(settings)
     }
@@ -402,10 +394,7 @@ impl Turning {
     pub fn is_finite(self) -> bool
         ensures { result ≡ all_finite (vertices_by (strokes_in self)) }
     {
-        let span = self.span;
-        let tip = self.tip;
-        let connector = self.connector;
-        is_finite(span) && (is_finite(tip) && is_finite(connector))
+        is_finite(self.span) && is_finite(self.tip) && is_finite(self.connector)
     }
 }
 
@@ -414,11 +403,9 @@ impl Ending {
     pub fn is_finite(self) -> bool
         ensures { result ≡ all_finite (ending_piece self).vertices }
     {
-        let span = self.span;
-        let vertex = self.vertex;
-        if self.ends {
-            return is_finite(span) && is_finite_vertex(vertex);
+        match self.last {
+            Some(vertex) => is_finite(self.span) && is_finite_vertex(vertex),
+            None => is_finite(self.span),
         }
-        is_finite(span)
     }
 }
