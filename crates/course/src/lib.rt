@@ -57,7 +57,6 @@ impl Course {
     pub fn none() -> Course
         ensures { result ≡ no_course }
     {
-        let point = Vector2 { x: 0.0, y: 0.0 };
         let vertex = PlineVertex {
             x: 0.0,
             y: 0.0,
@@ -67,7 +66,7 @@ impl Course {
             before: vertex,
             last: vertex,
             start_param: 0.0,
-            point,
+            point: Vector2 { x: 0.0, y: 0.0 },
             taken: 0,
             number: 0,
         }
@@ -76,26 +75,26 @@ impl Course {
     fn pen(self) -> Pen
         ensures { result ≡ pen_in self }
     {
-        let last = self.point;
-        let number = OutputSegment(self.number);
-        Pen { last, number }
+        Pen {
+            last: self.point,
+            number: OutputSegment(self.number),
+        }
     }
 
     // A walk that is led in asks its entry for a parameter alone.
     fn entry(self) -> JoinBoundary
         ensures { result ≡ entry_in self }
     {
-        let point = self.point;
         JoinBoundary {
             cause: JoinCause::Coincident,
             current_rule: ArcRule::NoRule,
             next_rule: ArcRule::NoRule,
-            current_end: point,
+            current_end: self.point,
             current_param: 0.0,
-            next_start: point,
+            next_start: self.point,
             next_param: self.start_param,
             connector_bulge: 0.0,
-            tip: point,
+            tip: self.point,
         }
     }
 
@@ -104,18 +103,13 @@ impl Course {
         requires { 2 ≤ self.taken }
         ensures { (stood result ≡ stood_in offset self) × Fit result }
     {
-        let vertex = self.last;
-        let source = SourceSegment(self.taken - 2);
-        let current = CarriedSeg::anew(self.before, vertex, offset);
-        let entry = self.entry();
-        let pen = self.pen();
         Walk {
-            source,
-            current,
+            source: SourceSegment(self.taken - 2),
+            current: CarriedSeg::anew(self.before, self.last, offset),
             seen: meetings::not_seen(),
-            vertex,
-            entry,
-            pen,
+            vertex: self.last,
+            entry: self.entry(),
+            pen: self.pen(),
             leading: 0,
         }
     }
@@ -124,15 +118,10 @@ impl Course {
         requires { self.taken < 4096 }
         ensures { result ≡ held self c }
     {
-        let before = self.before;
-        let point = self.point;
         Course {
-            before,
             last: c,
-            start_param: self.start_param,
-            point,
             taken: self.taken + 1,
-            number: self.number,
+            ..self
         }
     }
 
@@ -141,14 +130,12 @@ impl Course {
         requires { self.taken < 4096 }
         ensures { result ≡ entered settings self c }
     {
-        let before = self.last;
-        let segment = CarriedSeg::anew(before, c, settings.offset);
-        let point = segment.start();
+        let segment = CarriedSeg::anew(self.last, c, settings.offset);
         Course {
-            before,
+            before: self.last,
             last: c,
             start_param: 0.0,
-            point,
+            point: segment.start(),
             taken: self.taken + 1,
             number: self.number,
         }
@@ -158,16 +145,12 @@ impl Course {
     fn undrawn(self) -> Stepped
         ensures { (drawn_by 0 result ≡ []) × Coded result.stroke.origin }
     {
-        let vertex = self.last;
         let pen = self.pen();
-        let number = pen.number;
-        let source = SourceSegment(0);
-        let origin = Origin::Span(source);
         let stroke = Stroke {
-            vertex,
+            vertex: self.last,
             reason: Reason::Copied,
-            origin,
-            number,
+            origin: Origin::Span(SourceSegment(0)),
+            number: pen.number,
         };
         Stepped {
             kept: false,
@@ -184,21 +167,16 @@ impl Course {
         if self.taken == 0 {
             return self.undrawn();
         }
-        let vertex = self.last;
-        let pen = self.pen();
-        let source = SourceSegment(self.taken - 1);
-        let origin = Origin::Span(source);
-        let number = OutputSegment(self.taken - 1);
         let stroke = Stroke {
-            vertex,
+            vertex: self.last,
             reason: Reason::Copied,
-            origin,
-            number,
+            origin: Origin::Span(SourceSegment(self.taken - 1)),
+            number: OutputSegment(self.taken - 1),
         };
         Stepped {
             kept: true,
             stroke,
-            pen,
+            pen: self.pen(),
         }
     }
 
@@ -221,21 +199,15 @@ impl Course {
         requires { (2 ≤ self.taken) × Able self settings pointed }
         ensures { (strokes_in result ≡ turn_strokes settings self c) × (result.course ≡ (turned settings self c).course) × CodedAll result }
     {
-        let last = self.last;
         let eps = settings.eps;
         let walk = self.walk(settings.offset);
-        let ahead = CarriedSeg::anew(last, c, settings.offset);
+        let ahead = CarriedSeg::anew(self.last, c, settings.offset);
         let turned = walk.turn(c, ahead, settings, pointed);
-        let moved = turned.span;
         let bulge = segments::bulge_by(turned.curved, turned.sweep);
-        let before = walk.pen;
-        let span = before.step(moved.bulging(bulge), eps);
+        let span = walk.pen.step(turned.span.bulging(bulge), eps);
         let tip = step_to_tip(span.pen, turned.connector, turned.join, eps);
-        let between = tip.pen;
-        let connector = between.step(turned.connector, eps);
-        let on = turned.walk;
-        let entry = on.entry;
-        let course = self.left_at(c, entry.next_param, connector.pen);
+        let connector = tip.pen.step(turned.connector, eps);
+        let course = self.left_at(c, turned.walk.entry.next_param, connector.pen);
         Turning {
             course,
             span,
@@ -249,16 +221,13 @@ impl Course {
         requires { self.taken < 4096 }
         ensures { result ≡ left_at self c start_param pen }
     {
-        let before = self.last;
-        let point = pen.last;
-        let number = pen.number;
         Course {
-            before,
+            before: self.last,
             last: c,
             start_param,
-            point,
+            point: pen.last,
             taken: self.taken + 1,
-            number: number.0,
+            number: pen.number.0,
         }
     }
 
@@ -358,15 +327,13 @@ fn step_to_tip(pen: Pen, connector: Move, join: JoinBoundary, eps: f64) -> Stepp
     ensures { (drawn_by 0 result ≡ strokes_by 0 pen (tip_first join connector) eps) × (result.pen ≡ pen_by pen (tip_first join connector) eps) × Coded result.stroke.origin }
 {
     let stepped = pen.step(connector.to_tip(join.tip), eps);
-    let cause = join.cause;
-    if cause.is_pointed() {
+    if join.cause.is_pointed() {
         return stepped;
     }
-    let stroke = stepped.stroke;
     Stepped {
         kept: false,
-        stroke,
         pen,
+        ..stepped
     }
 }
 
@@ -382,9 +349,8 @@ fn is_finite_vertex(v: PlineVertex) -> bool
 fn is_finite(stepped: Stepped) -> bool
     ensures { result ≡ all_finite (vertices_by (drawn_by 0 stepped)) }
 {
-    let stroke = stepped.stroke;
     if stepped.kept {
-        return is_finite_vertex(stroke.vertex);
+        return is_finite_vertex(stepped.stroke.vertex);
     }
     true
 }
