@@ -8,6 +8,9 @@ use borrow.Author.Tests.{eqb-true, eqb-false, lt-ltb, le-ltb, eq-eqb, ne_eqb}
 use lib.Dec.{eqb, ltb}
 use lib.ListN.{length}
 use lib.Ieee.{Float, eq, is_nan}
+use Rattle.std.specs.Prelude.{Option, Some, None}
+use Rattle.std.specs.Option.{option_to_list}
+use Rattle.std.specs.Bool.{then_some}
 use Rattle.floats.specs.Binary64 as B
 use Rattle.floats.specs.Choice.{when◌give◌else◌, ◌and◌}
 use Rattle.floats.proofs.Choice.{yes, no}
@@ -39,7 +42,7 @@ use Rattle.course.specs.declared.Course.{Course}
 use Rattle.course.specs.declared.Turning.{Turning}
 use Rattle.course.specs.declared.Ending.{Ending}
 use Rattle.course.specs.Course.{piece_from, ◌then◌, segment_in, held, entered, turn_moves, Step, turned, copy_of, copies, step_on, last_piece}
-use Rattle.course.specs.InnerSteps.{numbers_by, vertices_by, piece_by, pen_in, stood_in, copy_stroke, copy_strokes, turn_strokes, step_strokes, strokes_in, left_at, end_vertices, ending_piece, just_ending}
+use Rattle.course.specs.InnerSteps.{numbers_by, vertices_by, piece_by, pen_in, stood_in, copy_stroke, copy_strokes, turn_strokes, step_strokes, strokes_in, left_at, ending_piece, just_ending}
 
 -- ---- a stroke that is drawn, and one that is not
 
@@ -85,13 +88,13 @@ finite-three t =
     rw (map-append, map-append)
     (finite-append (vertices_by a) (vertices_by b ++ vertices_by c) ∙ ap (λ (x : Bool). all_finite (vertices_by a) and x) (finite-append (vertices_by b) (vertices_by c)))
 
-pub finite-ending : (e : Ending) → e.ends ≡ true → all_finite (ending_piece e).vertices ≡ (all_finite (vertices_by (drawn_by 0 e.span)) and finite_vertex e.vertex)
-unfolding ending_piece end_vertices all_finite
-finite-ending e h = rw (sym (yes e.ends (e.vertex ∷ []) [] h refl)) (finite-append (vertices_by (drawn_by 0 e.span)) (e.vertex ∷ []) ∙ rw (and-true (finite_vertex e.vertex)))
+pub finite-ending : (e : Ending) (v : PlineVertex) → e.last ≡ Some v → all_finite (ending_piece e).vertices ≡ (all_finite (vertices_by (drawn_by 0 e.span)) and finite_vertex v)
+unfolding ending_piece all_finite
+finite-ending e v h = rw h (finite-append (vertices_by (drawn_by 0 e.span)) (v ∷ []) ∙ rw (and-true (finite_vertex v)))
 
-pub finite_unended : (e : Ending) → e.ends ≡ false → all_finite (ending_piece e).vertices ≡ all_finite (vertices_by (drawn_by 0 e.span))
-unfolding ending_piece end_vertices
-finite_unended e h = rw (sym (no e.ends (e.vertex ∷ []) [] h refl), append-nil (vertices_by (drawn_by 0 e.span)))
+pub finite_unended : (e : Ending) → e.last ≡ None → all_finite (ending_piece e).vertices ≡ all_finite (vertices_by (drawn_by 0 e.span))
+unfolding ending_piece
+finite_unended e h = rw (h, append-nil (vertices_by (drawn_by 0 e.span)))
 
 -- ---- one after another
 
@@ -241,13 +244,13 @@ module _ (σ : Settings) (w : Course) (c : PlineVertex) where
 
 -- ---- the end
 
-pub just_ending_lem : (e : Ending) → drawn_by 0 e.span ≡ [] → ending_piece e ≡ just_ending e.ends e.vertex
-unfolding ending_piece end_vertices numbers_by when◌give◌else◌
-just_ending_lem e h = rw h (by e.ends)
+pub just_ending_lem : (e : Ending) → drawn_by 0 e.span ≡ [] → ending_piece e ≡ just_ending e.last
+unfolding ending_piece numbers_by
+just_ending_lem e h = rw h (by e.last)
   where
-    by : (t : Bool) → ◌≡◌ {A = Drawing} (record { vertices = when t give e.vertex ∷ [] else []; flags = []; indexes = []; origins = []; closed = false }) (just_ending t e.vertex)
-    by true = refl
-    by false = refl
+    by : (o : Option PlineVertex) → ◌≡◌ {A = Drawing} (record { vertices = option_to_list o; flags = []; indexes = []; origins = []; closed = false }) (just_ending o)
+    by (Some v) = refl
+    by None = refl
 
 module _ (σ : Settings) (w : Course) (st : Stepped) {m : Move} (is : m ∷ [] ≡ open_last (w.taken - 2) (segment_in σ w) w.start_param) (at : st ≡ step_of (pen_in w) m σ.eps) where
   abbrev ks : List Move
@@ -259,12 +262,12 @@ module _ (σ : Settings) (w : Course) (st : Stepped) {m : Move} (is : m ∷ [] �
   strokes_are : drawn_by 0 st ≡ strokes w.number w.point ks
   strokes_are = last.drawn ∙ rw is
 
-  pub last-piece : ending_piece (record { span = st; ends = not (eqb st.pen.number.0 0); vertex = vertex_at st.pen.last B.zero }) ≡ last_piece σ w
-  unfolding ending_piece end_vertices last_piece
+  pub last-piece : ending_piece (record { span = st; last = then_some (not (eqb st.pen.number.0 0)) (vertex_at st.pen.last B.zero) }) ≡ last_piece σ w
+  unfolding ending_piece last_piece
   last-piece = rw (strokes_are, last.left, is) (by (eqb (w.number + length ks) 0) refl)
     where
       by : (t : Bool) → eqb (w.number + length ks) 0 ≡ t → ◌≡◌ {A = Drawing} (record {
-        vertices = vertices_by (strokes w.number w.point ks) ++ (when not t give vertex_at (last_point w.point ks) B.zero ∷ [] else []);
+        vertices = vertices_by (strokes w.number w.point ks) ++ option_to_list (then_some (not t) (vertex_at (last_point w.point ks) B.zero));
         flags = (piece_by (strokes w.number w.point ks)).flags;
         indexes = (piece_by (strokes w.number w.point ks)).indexes;
         origins = (piece_by (strokes w.number w.point ks)).origins;
@@ -294,7 +297,7 @@ module _ (σ : Settings) (w : Course) (st : Stepped) {m : Move} (is : m ∷ [] �
 -- as the code goes
 pub last-span-is : (σ : Settings) (w : Course) (k : Walk) (st : Stepped) {end : Vector2} {m : Move} {v : PlineVertex} → stood k ≡ stood_in σ.offset w → end ≡ end_of (full_seg k.current)
     → m ≡ span_to (stands k) end B.one → st ≡ step_of k.pen m σ.eps → v ≡ vertex_at st.pen.last B.zero
-    → ending_piece (record { span = st; ends = not (eqb st.pen.number.0 0); vertex = v }) ≡ last_piece σ w
+    → ending_piece (record { span = st; last = then_some (not (eqb st.pen.number.0 0)) v }) ≡ last_piece σ w
 unfolding stood_in open_last
 last-span-is σ w k st {end} {m} at e s d v =
     let x = ap (λ (y : Stood). span_to y.walker (end_of y.walker.current) B.one) at in

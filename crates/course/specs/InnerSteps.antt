@@ -1,13 +1,15 @@
 -- The steps of the code, by strokes: which strokes a vertex and the end draw, and the piece that strokes are. No rule rests on these: `proofs/Strokes.antt` ties them to the
 -- pieces of the rules. Definitions only.
-use Rattle.std.specs.Prelude.{◌≡◌, ℕ, ◌+◌, ◌*◌, ◌-◌, ◌≤◌, ◌<◌, List, [], ◌∷◌, ◌++◌, map, Bool, true, false, not, eqb, ltb, leb, Float}
+use Rattle.std.specs.Prelude.{◌≡◌, ℕ, ◌+◌, ◌*◌, ◌-◌, ◌≤◌, ◌<◌, List, [], ◌∷◌, ◌++◌, map, Bool, false, not, eqb, ltb, leb, Float, Option, Some, None, Result, Ok, Err}
 use Rattle.std.specs.Float.Ieee.{eq}
+use Rattle.std.specs.Option.{option_to_list}
 use Rattle.floats.specs.Binary64.{zero}
 use Rattle.floats.specs.Choice.{when◌give◌else◌, ◌and◌}
 use Rattle.segments.specs.declared.Settings.{Settings}
 use Rattle.segments.specs.declared.PlineVertex.{PlineVertex}
 use Rattle.segments.specs.Modes.{are_pointed}
 use Rattle.segments.specs.Segment.{offset_seg}
+use Rattle.refusals.specs.declared.Refusal.{Refusal}
 use Rattle.refusals.specs.declared.Refusal.TheVariants.{TooMany, BadNumber, Repeated}
 use Rattle.refusals.specs.Table.{number_of}
 use Rattle.refusals.specs.Limits.{good_vertex, repeats}
@@ -108,7 +110,15 @@ pub record CodedAll (t : Turning) : Type 0 where
   pub tip : Coded t.tip.stroke.origin
   pub connector : Coded t.connector.stroke.origin
 
--- the refusals that are told before the strokes are
+-- the refusals that are told before the strokes are, and their numbers
+unfoldable pub checked : Float → Course → PlineVertex → Result (Unit {0}) Refusal
+checked offset w c =
+    when leb 4096 w.taken give Err TooMany else
+    when not (good_vertex c) give Err (BadNumber w.taken) else
+    when eq offset zero give Ok tt else
+    when ltb 0 w.taken and repeats w.last c give Err (Repeated w.taken) else
+    Ok tt
+
 unfoldable pub early : Float → Course → PlineVertex → ℕ
 early offset w c =
     when leb 4096 w.taken give number_of TooMany else
@@ -119,12 +129,9 @@ early offset w c =
 
 -- ---- the end: the last span, drawn or not, and a last vertex, or none
 
-unfoldable pub end_vertices : Ending → List PlineVertex
-end_vertices e = when e.ends give e.vertex ∷ [] else []
-
 unfoldable pub ending_piece : Ending → Drawing
 ending_piece e = record {
-  vertices = vertices_by (drawn_by 0 e.span) ++ end_vertices e;
+  vertices = vertices_by (drawn_by 0 e.span) ++ option_to_list e.last;
   flags = (piece_by (drawn_by 0 e.span)).flags;
   indexes = (piece_by (drawn_by 0 e.span)).indexes;
   origins = (piece_by (drawn_by 0 e.span)).origins;
@@ -132,6 +139,6 @@ ending_piece e = record {
 }
 
 -- no stroke, and a last vertex or none
-abbrev pub just_ending : Bool → PlineVertex → Drawing
-just_ending true v = record { vertices = v ∷ []; flags = []; indexes = []; origins = []; closed = false }
-just_ending false v = nothing
+abbrev pub just_ending : Option PlineVertex → Drawing
+just_ending (Some v) = record { vertices = v ∷ []; flags = []; indexes = []; origins = []; closed = false }
+just_ending None = nothing

@@ -6,18 +6,19 @@
 ghost use Rattle.std.specs.Prelude.{◌≡◌, [], ◌+◌, ◌≤◌, ◌<◌, eqb, ltb};
 ghost use Rattle.floats.specs.Choice.{◌and◌};
 ghost use Rattle.segments.specs.Segment.{offset_seg, is_collapsed};
+ghost use Rattle.refusals.specs.Table.{number};
 ghost use Rattle.refusals.specs.Limits.{repeats};
 ghost use Rattle.moves.specs.Drawing.{finite_vertex, all_finite};
 ghost use Rattle.moves.specs.InnerSteps.{tip_first};
 ghost use Rattle.sheet.specs.InnerSteps.{Coded};
 ghost use Rattle.walk.specs.InnerSteps.{stood, Fit, drawn_by, strokes_by, pen_by};
 ghost use Rattle.course.specs.Course.{no_course, held, entered, turned, step_on, last_piece, end_piece};
-ghost use Rattle.course.specs.InnerSteps.{pen_in, entry_in, stood_in, vertices_by, copy_strokes, turn_strokes, step_strokes, strokes_in, Able, CodedAll, left_at, early, ending_piece, just_ending};
+ghost use Rattle.course.specs.InnerSteps.{pen_in, entry_in, stood_in, vertices_by, copy_strokes, turn_strokes, step_strokes, strokes_in, Able, CodedAll, left_at, checked, early, ending_piece, just_ending};
 
 use joins::{JoinBoundary, JoinCause};
 use meetings::ArcRule;
 use moves::{Move, Origin, Pen, Reason, Stepped, Stroke};
-use refusals::Refusal;
+use refusals::{MOST_VERTICES, Refusal};
 use segments::{CarriedSeg, OutputSegment, PlineVertex, Settings, SourceSegment};
 use vectors::Vector2;
 use walk::Walk;
@@ -44,22 +45,18 @@ pub struct Turning {
     pub connector: Stepped,
 }
 
-// What the end makes certain: the last span, drawn or not, and a last vertex, if it `ends` with one.
+// What the end makes certain: the last span, drawn or not, and a last vertex, if there is one.
 #[derive(Clone, Copy)]
 pub struct Ending {
     pub span: Stepped,
-    pub ends: bool,
-    pub vertex: PlineVertex,
+    pub last: Option<PlineVertex>,
 }
-
-const MOST_VERTICES: u32 = 4096;
 
 impl Course {
     // No vertex is taken.
     pub fn none() -> Course
         ensures { result ≡ no_course }
     {
-        let point = Vector2 { x: 0.0, y: 0.0 };
         let vertex = PlineVertex {
             x: 0.0,
             y: 0.0,
@@ -69,7 +66,7 @@ impl Course {
             before: vertex,
             last: vertex,
             start_param: 0.0,
-            point,
+            point: Vector2 { x: 0.0, y: 0.0 },
             taken: 0,
             number: 0,
         }
@@ -78,26 +75,26 @@ impl Course {
     fn pen(self) -> Pen
         ensures { result ≡ pen_in self }
     {
-        let last = self.point;
-        let number = OutputSegment(self.number);
-        Pen { last, number }
+        Pen {
+            last: self.point,
+            number: OutputSegment(self.number),
+        }
     }
 
     // A walk that is led in asks its entry for a parameter alone.
     fn entry(self) -> JoinBoundary
         ensures { result ≡ entry_in self }
     {
-        let point = self.point;
         JoinBoundary {
             cause: JoinCause::Coincident,
             current_rule: ArcRule::NoRule,
             next_rule: ArcRule::NoRule,
-            current_end: point,
+            current_end: self.point,
             current_param: 0.0,
-            next_start: point,
+            next_start: self.point,
             next_param: self.start_param,
             connector_bulge: 0.0,
-            tip: point,
+            tip: self.point,
         }
     }
 
@@ -106,18 +103,13 @@ impl Course {
         requires { 2 ≤ self.taken }
         ensures { (stood result ≡ stood_in offset self) × Fit result }
     {
-        let vertex = self.last;
-        let source = SourceSegment(self.taken - 2);
-        let current = CarriedSeg::anew(self.before, vertex, offset);
-        let entry = self.entry();
-        let pen = self.pen();
         Walk {
-            source,
-            current,
+            source: SourceSegment(self.taken - 2),
+            current: CarriedSeg::anew(self.before, self.last, offset),
             seen: meetings::not_seen(),
-            vertex,
-            entry,
-            pen,
+            vertex: self.last,
+            entry: self.entry(),
+            pen: self.pen(),
             leading: 0,
         }
     }
@@ -126,15 +118,10 @@ impl Course {
         requires { self.taken < 4096 }
         ensures { result ≡ held self c }
     {
-        let before = self.before;
-        let point = self.point;
         Course {
-            before,
             last: c,
-            start_param: self.start_param,
-            point,
             taken: self.taken + 1,
-            number: self.number,
+            ..self
         }
     }
 
@@ -143,14 +130,12 @@ impl Course {
         requires { self.taken < 4096 }
         ensures { result ≡ entered settings self c }
     {
-        let before = self.last;
-        let segment = CarriedSeg::anew(before, c, settings.offset);
-        let point = segment.start();
+        let segment = CarriedSeg::anew(self.last, c, settings.offset);
         Course {
-            before,
+            before: self.last,
             last: c,
             start_param: 0.0,
-            point,
+            point: segment.start(),
             taken: self.taken + 1,
             number: self.number,
         }
@@ -160,16 +145,12 @@ impl Course {
     fn undrawn(self) -> Stepped
         ensures { (drawn_by 0 result ≡ []) × Coded result.stroke.origin }
     {
-        let vertex = self.last;
         let pen = self.pen();
-        let number = pen.number;
-        let source = SourceSegment(0);
-        let origin = Origin::Span(source);
         let stroke = Stroke {
-            vertex,
+            vertex: self.last,
             reason: Reason::Copied,
-            origin,
-            number,
+            origin: Origin::Span(SourceSegment(0)),
+            number: pen.number,
         };
         Stepped {
             kept: false,
@@ -186,21 +167,16 @@ impl Course {
         if self.taken == 0 {
             return self.undrawn();
         }
-        let vertex = self.last;
-        let pen = self.pen();
-        let source = SourceSegment(self.taken - 1);
-        let origin = Origin::Span(source);
-        let number = OutputSegment(self.taken - 1);
         let stroke = Stroke {
-            vertex,
+            vertex: self.last,
             reason: Reason::Copied,
-            origin,
-            number,
+            origin: Origin::Span(SourceSegment(self.taken - 1)),
+            number: OutputSegment(self.taken - 1),
         };
         Stepped {
             kept: true,
             stroke,
-            pen,
+            pen: self.pen(),
         }
     }
 
@@ -223,21 +199,15 @@ impl Course {
         requires { (2 ≤ self.taken) × Able self settings pointed }
         ensures { (strokes_in result ≡ turn_strokes settings self c) × (result.course ≡ (turned settings self c).course) × CodedAll result }
     {
-        let last = self.last;
         let eps = settings.eps;
         let walk = self.walk(settings.offset);
-        let ahead = CarriedSeg::anew(last, c, settings.offset);
+        let ahead = CarriedSeg::anew(self.last, c, settings.offset);
         let turned = walk.turn(c, ahead, settings, pointed);
-        let moved = turned.span;
         let bulge = segments::bulge_by(turned.curved, turned.sweep);
-        let before = walk.pen;
-        let span = before.step(moved.bulging(bulge), eps);
+        let span = walk.pen.step(turned.span.bulging(bulge), eps);
         let tip = step_to_tip(span.pen, turned.connector, turned.join, eps);
-        let between = tip.pen;
-        let connector = between.step(turned.connector, eps);
-        let on = turned.walk;
-        let entry = on.entry;
-        let course = self.left_at(c, entry.next_param, connector.pen);
+        let connector = tip.pen.step(turned.connector, eps);
+        let course = self.left_at(c, turned.walk.entry.next_param, connector.pen);
         Turning {
             course,
             span,
@@ -251,16 +221,13 @@ impl Course {
         requires { self.taken < 4096 }
         ensures { result ≡ left_at self c start_param pen }
     {
-        let before = self.last;
-        let point = pen.last;
-        let number = pen.number;
         Course {
-            before,
+            before: self.last,
             last: c,
             start_param,
-            point,
+            point: pen.last,
             taken: self.taken + 1,
-            number: number.0,
+            number: pen.number.0,
         }
     }
 
@@ -281,23 +248,24 @@ impl Course {
         self.turned(c, settings, pointed)
     }
 
-    // The number of the refusal of c that is told before its strokes are, or 0.
-    pub fn early_refusal(self, c: PlineVertex, offset: f64) -> u32
-        ensures { result ≡ early offset self c }
+    // Whether c is refused before its strokes are known.
+    pub fn check(self, c: PlineVertex, offset: f64) -> Result<(), Refusal>
+        ensures value { result ≡ checked offset self c }
+        ensures told { number result ≡ early offset self c }
     {
-        if MOST_VERTICES <= self.taken {
-            return Refusal::TooMany.number();
+        if MOST_VERTICES <= self.taken as usize {
+            return Err(Refusal::TooMany);
         }
         if !refusals::good_vertex(c) {
-            return Refusal::BadNumber(self.taken).number();
+            return Err(Refusal::BadNumber(self.taken));
         }
         if offset == 0.0 {
-            return 0;
+            return Ok(());
         }
         if self.is_repeated(c) {
-            return Refusal::Repeated(self.taken).number();
+            return Err(Refusal::Repeated(self.taken));
         }
-        0
+        Ok(())
     }
 
     fn is_repeated(self, c: PlineVertex) -> bool
@@ -315,12 +283,11 @@ impl Course {
     }
 
     // No stroke, and a last vertex or none.
-    fn ending(self, ends: bool) -> Ending
-        ensures { (ending_piece result ≡ just_ending ends self.last) × Coded result.span.stroke.origin }
+    fn ending(self, last: Option<PlineVertex>) -> Ending
+        ensures { (ending_piece result ≡ just_ending last) × Coded result.span.stroke.origin }
     {
-        let vertex = self.last;
         let span = self.undrawn();
-        Ending { span, ends, vertex }
+        Ending { span, last }
     }
 
     // The last span, and the last point if anything is drawn at all.
@@ -329,17 +296,11 @@ impl Course {
         ensures { (ending_piece result ≡ last_piece settings self) × Coded result.span.stroke.origin }
     {
         let walk = self.walk(settings.offset);
-        let current = walk.current;
-        let before = walk.pen;
-        let span = before.step(walk.span_to(current.end(), 1.0), settings.eps);
-        let pen = span.pen;
-        let number = pen.number;
-        let vertex = PlineVertex::from_vector2(pen.last, 0.0);
-        Ending {
-            span,
-            ends: number.0 != 0,
-            vertex,
-        }
+        let end = walk.span_to(walk.current.end(), 1.0);
+        let span = walk.pen.step(end, settings.eps);
+        let vertex = PlineVertex::from_vector2(span.pen.last, 0.0);
+        let last = (span.pen.number.0 != 0).then_some(vertex);
+        Ending { span, last }
     }
 
     // What the end makes certain.
@@ -348,13 +309,13 @@ impl Course {
         ensures { (ending_piece result ≡ end_piece settings self) × Coded result.span.stroke.origin }
     {
         if self.taken < 2 {
-            return self.ending(false);
+            return self.ending(None);
         }
         if settings.offset == 0.0 {
-            return self.ending(true);
+            return self.ending(Some(self.last));
         }
         if self.is_lone_collapsed(settings.offset) {
-            return self.ending(false);
+            return self.ending(None);
         }
         self.last_span(settings)
     }
@@ -366,15 +327,13 @@ fn step_to_tip(pen: Pen, connector: Move, join: JoinBoundary, eps: f64) -> Stepp
     ensures { (drawn_by 0 result ≡ strokes_by 0 pen (tip_first join connector) eps) × (result.pen ≡ pen_by pen (tip_first join connector) eps) × Coded result.stroke.origin }
 {
     let stepped = pen.step(connector.to_tip(join.tip), eps);
-    let cause = join.cause;
-    if cause.is_pointed() {
+    if join.cause.is_pointed() {
         return stepped;
     }
-    let stroke = stepped.stroke;
     Stepped {
         kept: false,
-        stroke,
         pen,
+        ..stepped
     }
 }
 
@@ -390,9 +349,8 @@ fn is_finite_vertex(v: PlineVertex) -> bool
 fn is_finite(stepped: Stepped) -> bool
     ensures { result ≡ all_finite (vertices_by (drawn_by 0 stepped)) }
 {
-    let stroke = stepped.stroke;
     if stepped.kept {
-        return is_finite_vertex(stroke.vertex);
+        return is_finite_vertex(stepped.stroke.vertex);
     }
     true
 }
@@ -402,10 +360,7 @@ impl Turning {
     pub fn is_finite(self) -> bool
         ensures { result ≡ all_finite (vertices_by (strokes_in self)) }
     {
-        let span = self.span;
-        let tip = self.tip;
-        let connector = self.connector;
-        is_finite(span) && (is_finite(tip) && is_finite(connector))
+        is_finite(self.span) && is_finite(self.tip) && is_finite(self.connector)
     }
 }
 
@@ -414,11 +369,9 @@ impl Ending {
     pub fn is_finite(self) -> bool
         ensures { result ≡ all_finite (ending_piece self).vertices }
     {
-        let span = self.span;
-        let vertex = self.vertex;
-        if self.ends {
-            return is_finite(span) && is_finite_vertex(vertex);
+        match self.last {
+            Some(vertex) => is_finite(self.span) && is_finite_vertex(vertex),
+            None => is_finite(self.span),
         }
-        is_finite(span)
     }
 }

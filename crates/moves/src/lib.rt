@@ -160,13 +160,11 @@ impl Move {
     ) -> Move
         ensures { result ≡ with_bulge zero (span_move source.0 (full_seg segment) start_param end end_param) }
     {
-        let reason = Reason::of_span(segment, start_param, end_param);
-        let origin = Origin::Span(source);
         Move {
             end,
             bulge: 0.0,
-            reason,
-            origin,
+            reason: Reason::of_span(segment, start_param, end_param),
+            origin: Origin::Span(source),
         }
     }
 
@@ -175,15 +173,11 @@ impl Move {
     pub fn connector(source: SourceSegment, boundary: JoinBoundary) -> Move
         ensures { result ≡ connector_move source.0 boundary }
     {
-        let cause = boundary.cause;
-        let reason = Reason::of_connector(cause);
-        let origin = Origin::Connector(source);
-        let end = boundary.next_start;
         Move {
-            end,
+            end: boundary.next_start,
             bulge: boundary.connector_bulge,
-            reason,
-            origin,
+            reason: Reason::of_connector(boundary.cause),
+            origin: Origin::Connector(source),
         }
     }
 
@@ -235,10 +229,9 @@ impl Pen {
     pub fn add_first(point: Vector2) -> Pen
         ensures { result ≡ pen_at point }
     {
-        let number = OutputSegment(0);
         Pen {
             last: point,
-            number,
+            number: OutputSegment(0),
         }
     }
 
@@ -249,10 +242,10 @@ impl Pen {
         if dropped {
             return self;
         }
-        let last = m.end;
-        let here = self.number;
-        let number = OutputSegment(here.0 + 1);
-        Pen { last, number }
+        Pen {
+            last: m.end,
+            number: OutputSegment(self.number.0 + 1),
+        }
     }
 
     // The decision on one move, before anything is counted: it is dropped where it ends within eps of
@@ -262,19 +255,13 @@ impl Pen {
         requires { self.number.0 + 1 < 2 ^ 32 }
         ensures { result ≡ step_of self m eps }
     {
-        let last = self.last;
-        let end = m.end;
-        let dropped = last.fuzzy_eq_eps(end, eps);
-        let vertex = PlineVertex::from_vector2(last, m.bulge);
-        let number = self.number;
-        let reason = m.reason;
-        let origin = m.origin;
+        let dropped = self.last.fuzzy_eq_eps(m.end, eps);
         let pen = self.after(m, dropped);
         let stroke = Stroke {
-            vertex,
-            reason,
-            origin,
-            number,
+            vertex: PlineVertex::from_vector2(self.last, m.bulge),
+            reason: m.reason,
+            origin: m.origin,
+            number: self.number,
         };
         Stepped {
             kept: !dropped,
@@ -288,10 +275,7 @@ impl Pen {
 pub fn both(a: bool, b: bool) -> bool
     ensures { result ≡ (a and b) }
 {
-    if a {
-        return b;
-    }
-    false
+    a & b
 }
 
 // +0 where the three numbers are finite, and else a NaN: a difference of a number and itself is that.

@@ -6,9 +6,9 @@ use Prim.Native.Nat.{ℕ, ◌+◌, ◌≤◌, ◌<◌}
 use native.Mathlib.Omega.{arith}
 use lib.ListN.{length, length-append, length-map}
 use lib.Ieee.{Float, eq}
+use Rattle.std.specs.Prelude.{Some, None, is_some}
 use Rattle.floats.specs.Binary64 as B
 use Rattle.floats.specs.Choice.{when◌give◌else◌}
-use Rattle.floats.proofs.Choice.{yes, no}
 use Rattle.segments.specs.declared.Settings.{Settings}
 use Rattle.segments.specs.declared.PlineVertex.{PlineVertex}
 use Rattle.source.specs.Source.{rows}
@@ -27,20 +27,20 @@ use Rattle.sheet.proofs.Over.{over-set}
 use Rattle.course.specs.declared.Course.{Course}
 use Rattle.course.specs.declared.Ending.{Ending}
 use Rattle.course.specs.Course.{end_piece, end_refusal}
-use Rattle.course.specs.InnerSteps.{numbers_by, vertices_by, piece_by, end_vertices, ending_piece}
+use Rattle.course.specs.InnerSteps.{numbers_by, vertices_by, piece_by, ending_piece}
 use Rattle.pieces.specs.declared.OpenJob.{OpenJob}
 use Rattle.pieces.specs.declared.DrawAnswer.{DrawAnswer}
 use Rattle.pieces.specs.Calls.{settings_of, answering, called, handed_out, staged, ended}
 use Rattle.pieces.specs.InnerSteps.{rows_held, end_counts}
 use Rattle.pieces.proofs.Stored.{stores-rows, numbers-few, stores-written, written_out}
 
-no_last : (e : Ending) → e.ends ≡ false → (ending_piece e).vertices ≡ vertices_by (drawn_by 0 e.span)
-unfolding ending_piece end_vertices
-no_last e h = rw (sym (no e.ends (e.vertex ∷ []) [] h refl)) (append-nil (vertices_by (drawn_by 0 e.span)))
+no_last : (e : Ending) → e.last ≡ None → (ending_piece e).vertices ≡ vertices_by (drawn_by 0 e.span)
+unfolding ending_piece
+no_last e h = rw h (append-nil (vertices_by (drawn_by 0 e.span)))
 
-one_last : (e : Ending) → e.ends ≡ true → (ending_piece e).vertices ≡ vertices_by (drawn_by 0 e.span) ++ e.vertex ∷ []
-unfolding ending_piece end_vertices
-one_last e h = rw (sym (yes e.ends (e.vertex ∷ []) [] h refl))
+one_last : (e : Ending) (v : PlineVertex) → e.last ≡ Some v → (ending_piece e).vertices ≡ vertices_by (drawn_by 0 e.span) ++ v ∷ []
+unfolding ending_piece
+one_last e v h = rw h
 
 -- the other lists are those of the span
 as_span : (e : Ending) (h : Held) (old : Contents) → h ≡ over_at (ending_piece e).vertices old.vertices
@@ -85,29 +85,29 @@ module _ (e : Ending) (p r : Places) (ns ns' : List Float) (f i o f' i' o' : Lis
       let c = ap (λ (q : Places). q.strokes) z in
       omega (arith, few-places.0, w.vertices)
 
-  counts : (n : ℕ) → n ≡ r.strokes + bit e.ends → length (ending_piece e).vertices ≡ n → end_counts r e ≡ answering 0 0 (ending_piece e)
+  counts : (n : ℕ) → n ≡ r.strokes + bit (is_some e.last) → length (ending_piece e).vertices ≡ n → end_counts r e ≡ answering 0 0 (ending_piece e)
   unfolding ending_piece
   counts n a b =
       let l = length-map ss (λ (t : Stroke). bit (is_invalid t.reason)) in
       λ x. record { number = 0; place = 0; vertices = (sym a ∙ sym b) x; indexes = mark-place x; segments = (place ∙ sym l) x }
 
-  pub unended : e.ends ≡ false → (rows_held ns' f' i' o' ≡ written (ending_piece e) old) × (end_counts r e ≡ answering 0 0 (ending_piece e))
+  pub unended : e.last ≡ None → (rows_held ns' f' i' o' ≡ written (ending_piece e) old) × (end_counts r e ≡ answering 0 0 (ending_piece e))
   unended h =
       let all = no_last e h in
       let l = length-map ss (λ (t : Stroke). t.vertex) in
       (span-written ∙ as_span e _ old (ap (λ (vs : List PlineVertex). over_at vs old.vertices) (sym all)), counts (length ss) (rw h (omega (arith, place))) (ap (λ (vs : List PlineVertex). length vs) all ∙ l))
 
-  pub with-last : (ns'' : List Float) → e.ends ≡ true → held_by false ns'' [] [] ≡ put_at (held_by false ns' [] []) r.strokes e.vertex
+  pub with-last : (ns'' : List Float) (v : PlineVertex) → e.last ≡ Some v → held_by false ns'' [] [] ≡ put_at (held_by false ns' [] []) r.strokes v
       → (rows_held ns'' f' i' o' ≡ written (ending_piece e) old) × (end_counts r e ≡ answering 0 0 (ending_piece e))
-  with-last ns'' h q =
-      let all = one_last e h in
+  with-last ns'' v h q =
+      let all = one_last e v h in
       let l = length-map ss (λ (t : Stroke). t.vertex) in
       let n = drawn-few 0 e.span in
-      let m = length-append (vertices_by ss) (e.vertex ∷ []) in
+      let m = length-append (vertices_by ss) (v ∷ []) in
       let here : held_by false ns' [] [] ≡ over_at (vertices_by ss) old.vertices = ap (λ (b : Contents). b.vertices) span-written in
       let at : r.strokes ≡ length (vertices_by ss) = place ∙ sym l in
       let put : held_by false ns'' [] [] ≡ over_at (ending_piece e).vertices old.vertices =
-      q ∙ (λ x. put_at (here x) (at x) e.vertex) ∙ ap (λ (vs : List PlineVertex). making vs old.vertices) (over-set (vertices_by ss) old.vertices.made e.vertex (omega (arith, w.vertices)) ∙ rw all) in (
+      q ∙ (λ x. put_at (here x) (at x) v) ∙ ap (λ (vs : List PlineVertex). making vs old.vertices) (over-set (vertices_by ss) old.vertices.made v (omega (arith, w.vertices)) ∙ rw all) in (
         (λ x. contents (held_by false ns'' [] []) (span-written x).flags (span-written x).indexes (span-written x).origins) ∙ as_span e _ old put,
         counts (length ss + 1) (rw h (omega (arith, place))) (ap (λ (vs : List PlineVertex). length vs) all ∙ omega (arith, m, l)),
       )
@@ -124,7 +124,7 @@ module _ (j : OpenJob) (e : Ending) (p : Places) {σ : Settings} (ns ns' : List 
   piece = is ∙ ap (λ (τ : Settings). end_piece τ j.course) asked
 
   fits : length (ending_piece e).vertices ≤ fitting (rows_held ns f i o)
-  fits = let n = ap (λ (a : DrawAnswer). a.vertices) counted in omega (arith, bit-small e.ends, room.vertices)
+  fits = let n = ap (λ (a : DrawAnswer). a.vertices) counted in omega (arith, bit-small (is_some e.last), room.vertices)
 
   pub ended-called : {a : DrawAnswer} {j' : OpenJob} → a ≡ end_counts p e → j' ≡ staged ended 0 0 j.course j
       → called a j' (buffers (rows ns') f' i' (origins_in o')) ≡ called (answering 0 0 rest) (staged ended 0 0 j.course j) (handed_out rest (buffers (rows ns) f i (origins_in o)))

@@ -1,5 +1,5 @@
 -- The steps of the calls: strokes stored in rows, vertex by vertex. No rule rests on these: `proofs/Stored.antt` ties them to the pieces of the rules. Definitions only.
-use Rattle.std.specs.Prelude.{◌≡◌, ℕ, ◌+◌, ◌*◌, ◌≤◌, List, [], ◌∷◌, Bool, false, not, eqb, Float}
+use Rattle.std.specs.Prelude.{◌≡◌, ℕ, ◌+◌, ◌*◌, ◌≤◌, List, [], ◌∷◌, Bool, false, not, eqb, is_some, Float}
 use Rattle.floats.specs.Choice.{when◌give◌else◌}
 use Rattle.segments.specs.declared.Settings.{Settings}
 use Rattle.segments.specs.declared.PlineVertex.{PlineVertex}
@@ -65,4 +65,4 @@ taken_job t j = when eqb t.refusal 0 give staged drawing 0 0 t.course j else sta
 
 -- at the end
 abbrev pub end_counts : Places → Ending → DrawAnswer
-end_counts p e = record { number = 0; place = 0; vertices = p.strokes + bit e.ends; indexes = p.marks; segments = p.strokes }
+end_counts p e = record { number = 0; place = 0; vertices = p.strokes + bit (is_some e.last); indexes = p.marks; segments = p.strokes }

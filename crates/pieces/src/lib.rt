@@ -318,11 +318,10 @@ fn take_vertex(
     }
     let course = taken.course;
     let places = taken.places;
-    let early = course.early_refusal(c, settings.offset);
-    if early != 0 {
+    if let Err(refusal) = course.check(c, settings.offset) {
         return Taken {
             course,
-            refusal: early,
+            refusal: refusal.number(),
             places,
         };
     }
@@ -484,8 +483,8 @@ fn store_ending(
         ≡ written (ending_piece ending) (rows_held vertices.old flags.old indexes.old origins.old)) × (end_counts result ending ≡ answering 0 0 (ending_piece ending)) × (result.strokes ≤ 1) × (result.marks ≤ 1) }
 {
     let places = store_stroke(vertices, flags, indexes, origins, first, ending.span);
-    if ending.ends {
-        put_last(vertices, places.strokes, ending.vertex);
+    if let Some(vertex) = ending.last {
+        put_last(vertices, places.strokes, vertex);
     }
     places
 }
@@ -499,7 +498,7 @@ fn ending_answer(places: Places, ending: Ending) -> DrawAnswer
     DrawAnswer {
         number: 0,
         place: 0,
-        vertices: strokes + ending.ends as u32,
+        vertices: strokes + u32::from(ending.last.is_some()),
         indexes: places.marks as u32,
         segments: strokes,
     }

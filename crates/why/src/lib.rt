@@ -309,10 +309,9 @@ fn ask_turns(
     ensures { (asked result ≡ asks closed settings segment.0 (routed v turns «from» (vertices_of source.now)) (asked first)) × Fit result.walk }
 {
     let mut asking = first;
-    let mut k = from;
-    for _turn in 0..turns {
-        asking = asking.turn(source::vertex_at(source, k), closed, settings, segment);
-        k = source::next_place(v, k);
+    for turn in 0..turns {
+        let next = source::vertex_at(source, (from + turn) % v);
+        asking = asking.turn(next, closed, settings, segment);
     }
     asking
 }

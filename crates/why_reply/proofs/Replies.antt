@@ -11,7 +11,7 @@ use lib.Ieee.{Float}
 use Rattle.std.specs.Prelude.{Result}
 use Rattle.floats.proofs.Choice.{yes, no}
 use Rattle.words.specs.Words.{big_endian}
-use Rattle.refusals.specs.declared.Refusal.TheVariants as Refusal
+use Rattle.refusals.specs.declared.Refusal.TheVariants as Refused
 use Rattle.refusals.specs.Table.{number_of, place_of}
 use Rattle.segments.specs.declared.Corners.{Corners}
 use Rattle.segments.specs.declared.Settings.{Settings}
@@ -29,7 +29,7 @@ use Rattle.refusals.specs.declared.Refusal.{Refusal}
 use Rattle.why.specs.declared.Telling.{Telling}
 
 abbrev pub malformed_text : List ℕ
-malformed_text = refusal_of (number_of Refusal.Malformed) (place_of Refusal.Malformed)
+malformed_text = refusal_of (number_of Refused.Malformed) (place_of Refused.Malformed)
 
 -- no job, whatever is asked
 pub none : (bytes : List ℕ) (k : ℕ) → well_formed (job_in Either bytes) ≡ false → packed_reply bytes k ≡ malformed_text

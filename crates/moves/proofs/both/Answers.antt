@@ -1,9 +1,13 @@
 -- `moves::both` meets its contract. Assumes nothing.
-use Rattle.floats.proofs.Same.{choices}
+use mathlib.Core.Path.{◌≡◌, refl}
+use mathlib.Core.Bool.{Bool, true, false, ◌&&◌}
+use Rattle.floats.specs.Choice.{◌and◌}
 use Rattle.moves.proofs.both.Goals as goal
 
-pub returns-then-a : goal.returns-then-a
-returns-then-a c = search choices
+same : (a b : Bool) → (a && b) ≡ (a and b)
+unfolding ◌and◌
+same true b = refl
+same false b = refl
 
 pub returns : goal.returns
-returns c = search choices
+returns c = same _ _

@@ -12,16 +12,16 @@ put_last-requires c =
     let a = c.args in
     last-place a.ending a.first c.store_stroke-places.result _ _ _ _ _ _ _ _ c.requires.0 c.requires.1 c.store_stroke-places.ensures c.store_stroke-places.auto.vertices
 
-pub returns-then-ending : goal.returns-then-ending
-returns-then-ending c =
+pub returns-in-Some : goal.returns-in-Some
+returns-in-Some c =
     let a = c.args in
-    let all = with-last a.ending a.first c.store_stroke-places.result _ _ _ _ _ _ _ _ c.requires.0 c.requires.1 c.store_stroke-places.ensures _ c.if-ending.true c.put_last.ensures in
+    let all = with-last a.ending a.first c.store_stroke-places.result _ _ _ _ _ _ _ _ c.requires.0 c.requires.1 c.store_stroke-places.ensures _ _ c.in-Some.is c.put_last.ensures in
     let few = few-places a.ending a.first c.store_stroke-places.result _ _ _ _ _ _ _ _ c.requires.0 c.requires.1 c.store_stroke-places.ensures in
     (all.0, all.1, few.0, few.1)
 
-pub returns-else-ending : goal.returns-else-ending
-returns-else-ending c =
+pub returns-in_default : goal.returns-in_default
+returns-in_default c =
     let a = c.args in
-    let all = unended a.ending a.first c.store_stroke-places.result _ _ _ _ _ _ _ _ c.requires.0 c.requires.1 c.store_stroke-places.ensures c.if-ending.false in
+    let all = unended a.ending a.first c.store_stroke-places.result _ _ _ _ _ _ _ _ c.requires.0 c.requires.1 c.store_stroke-places.ensures c.in_default.is in
     let few = few-places a.ending a.first c.store_stroke-places.result _ _ _ _ _ _ _ _ c.requires.0 c.requires.1 c.store_stroke-places.ensures in
     (all.0, all.1, few.0, few.1)

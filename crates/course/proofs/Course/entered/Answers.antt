@@ -8,4 +8,4 @@ overflow_add-result c = omega (arith, c.requires)
 
 pub returns : goal.returns
 unfolding entered
-returns c = rw (c.start-point.ensures, c.anew-segment.ensures.full)
+returns c = rw (c.start.ensures, c.anew-segment.ensures.full)

@@ -17,6 +17,6 @@ pub returns : goal.returns
 returns c =
     let e = source-number _ _ c.walk-walk.result c.walk-walk.ensures.0 in
     let k : c.walk-walk.result.source.0 < 0x8000_0000 = omega (arith, c.requires.1) in (
-      last-span-is _ _ c.walk-walk.result c.step-span.result c.walk-walk.ensures.0 c.end.ensures c.span_to.ensures c.step-span.ensures c.from_vector2-vertex.ensures,
-      rw c.step-span.ensures (stepped_coded _ _ _ (span_coded _ _ _ _ _ c.span_to.ensures k)),
+      rw c.then_some-last.ensures (last-span-is _ _ c.walk-walk.result c.step-span.result c.walk-walk.ensures.0 c.end.ensures c.span_to-end.ensures c.step-span.ensures c.from_vector2-vertex.ensures),
+      rw c.step-span.ensures (stepped_coded _ _ _ (span_coded _ _ _ _ _ c.span_to-end.ensures k)),
     )
