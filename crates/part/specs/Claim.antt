@@ -13,7 +13,6 @@ use Rattle.moves.specs.Drawing.{Drawing, result_of}
 use Rattle.moves.specs.Choice.{NeverFalling}
 use Rattle.moves.specs.Sound.{segment_count}
 use Rattle.walk.specs.Branches.{Is}
-use Rattle.job.specs.declared.RawOffsetAnswer.TheVariants as Job
 use Rattle.job.specs.Rows.{Job, outcome, count}
 use Rattle.part.specs.declared.Bounds.{Bounds}
 use Rattle.part.specs.Part.{part_at, part_of, part_answer}
@@ -52,7 +51,7 @@ asked j d s = part_answer (sources j) (length (own_flags j d)) (own_origins j d)
 pub record Claim (j : Job) (s : ℕ) : Type 0 where
   -- the drawing that the answer counts, with its flags and origins
   pub drawing : Drawing
-  pub done : (outcome j).answer ≡ Job.Done (result_of drawing)
+  pub done : (outcome j).answer ≡ Ok (result_of drawing)
   pub flags : own_flags j drawing ≡ drawing.flags
   pub origins : own_origins j drawing ≡ drawing.origins
   -- each segment has both; the segments that they name never fall, and are the source's

@@ -7,6 +7,8 @@ use Prim.Native.Char.{code}
 use Prim.Native.Nat.{ℕ, ◌+◌, ◌*◌, ◌≤◌, ◌<◌}
 use native.Mathlib.Omega.{arith}
 use lib.ListN.{length, get_or, take, replicate}
+use Rattle.std.specs.Prelude.{Err, Ok, Result}
+use Rattle.refusals.specs.declared.Refusal.{Refusal}
 use Rattle.floats.specs.Choice.{when◌give◌else◌}
 use Rattle.floats.proofs.Choice.{no}
 use Rattle.segments.specs.declared.Corners.{Corners}
@@ -15,8 +17,6 @@ use Rattle.refusals.specs.Table.{number_of, place_of}
 use Rattle.moves.specs.declared.RawOffsetResult.{RawOffsetResult}
 use Rattle.moves.proofs.Origins.{origins-length}
 use Rattle.sheet.specs.Buffers.{Buffers}
-use Rattle.job.specs.declared.RawOffsetAnswer.{RawOffsetAnswer}
-use Rattle.job.specs.declared.RawOffsetAnswer.TheVariants.{Done, Refused}
 use Rattle.job.specs.Job.{Outcome, ending}
 use Rattle.refusals.specs.Table.{number}
 use Rattle.floats.specs.Binary64.{zero}
@@ -80,19 +80,19 @@ done_digit Drawing r b = refl
 done_digit Origins r b = refl
 
 module _ (asked : Asked) where
-  digit : (a : RawOffsetAnswer) (b : Buffers) → number a ≤ 6 → get_or (answer_text asked (ending a b)) 0 0 ≡ code "0" + number a
+  digit : (a : Result RawOffsetResult Refusal) (b : Buffers) → number a ≤ 6 → get_or (answer_text asked (ending a b)) 0 0 ≡ code "0" + number a
   unfolding answer_text when◌give◌else◌ refusal_of decimal_of places_of
-  digit (Done r) b h = done_digit asked r b
-  digit (Refused Ragged) b h = refl
-  digit (Refused TooMany) b h = refl
-  digit (Refused (BadNumber k)) b h = refl
-  digit (Refused NoRoom) b h = refl
-  digit (Refused (Repeated k)) b h = refl
-  digit (Refused NotFinite) b h = refl
-  digit (Refused Malformed) b h = refl
-  digit (Refused NoSuchSegment) b h = refl
-  digit (Refused NoOpenJob) b h = absurd (omega arith)
-  digit (Refused NoSuchSourceSegment) b h = absurd (omega arith)
+  digit (Ok r) b h = done_digit asked r b
+  digit (Err Ragged) b h = refl
+  digit (Err TooMany) b h = refl
+  digit (Err (BadNumber k)) b h = refl
+  digit (Err NoRoom) b h = refl
+  digit (Err (Repeated k)) b h = refl
+  digit (Err NotFinite) b h = refl
+  digit (Err Malformed) b h = refl
+  digit (Err NoSuchSegment) b h = refl
+  digit (Err NoOpenJob) b h = absurd (omega arith)
+  digit (Err NoSuchSourceSegment) b h = absurd (omega arith)
 
   module _ (form : Form) (bytes : List ℕ) where
     abbrev pub first_byte : ℕ

@@ -7,6 +7,8 @@ use native.Mathlib.Omega.{arith}
 use borrow.Author.Tests.{eq-eqb, ne_eqb}
 use lib.ListN.{length}
 use lib.Ieee.{Float}
+use Rattle.std.specs.Prelude.{Result}
+use Rattle.refusals.specs.declared.Refusal.{Refusal}
 use Rattle.segments.specs.declared.Corners.{Corners}
 use Rattle.segments.specs.declared.Corners.TheVariants.{Round, Pointed}
 use Rattle.segments.specs.declared.Settings.{Settings}
@@ -19,7 +21,6 @@ use Rattle.moves.specs.declared.Origin.{Origin}
 use Rattle.moves.specs.declared.RawOffsetResult.{RawOffsetResult}
 use Rattle.sheet.specs.Buffers.{Buffers}
 use Rattle.sheet.proofs.Products.{product_most}
-use Rattle.job.specs.declared.RawOffsetAnswer.{RawOffsetAnswer}
 use Rattle.job.specs.Job.{Outcome, result_in, ending, job_of}
 use Rattle.refusals.specs.Table.{number, place}
 use Rattle.walk.specs.Walk.{moves_a_segment}
@@ -71,7 +72,7 @@ places-most j =
     three-most (Pointed ratio) = omega arith
 
 module _ (s : List Float) (closed : Bool) (σ : Settings) where
-  module _ {a : RawOffsetAnswer} {b : Buffers} (ends : ending a b ≡ job_of (rows s) closed σ blank) where
+  module _ {a : Result RawOffsetResult Refusal} {b : Buffers} (ends : ending a b ≡ job_of (rows s) closed σ blank) where
     pub few-printed : length s ≤ 1536 → {r : RawOffsetResult} → r ≡ result_in a → r.vertices ≤ 1536
     few-printed h {r} e =
         let f = vertices-fit (blank_job s closed σ) in

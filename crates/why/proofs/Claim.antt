@@ -12,7 +12,7 @@ use borrow.Author.Tests.{ltb-true, ltb-false, lt-ltb, le-ltb}
 use lib.Dec.{T, ltb}
 use lib.ListN.{length, drop, get_or, replicate, length-append, length-replicate, get_or-replicate, get_or-append}
 use lib.Ieee.{eq}
-use Rattle.std.specs.Prelude.{Result, Ok, Err}
+use Rattle.std.specs.Prelude.{None, Option, Some, Result, Ok, Err}
 use Rattle.floats.specs.Binary64 as B
 use Rattle.floats.specs.Choice.{when◌give◌else◌}
 use Rattle.floats.proofs.Choice.{yes, no}
@@ -25,8 +25,6 @@ use Rattle.source.proofs.Source.{whole_same}
 use Rattle.source.proofs.Segments.{segments-closed, segments_open, segments-none}
 use Rattle.refusals.specs.declared.Refusal.{Refusal}
 use Rattle.refusals.specs.declared.Refusal.TheVariants.{Ragged, TooMany, BadNumber, NoRoom, NoSuchSegment}
-use Rattle.refusals.specs.declared.Place.{Place}
-use Rattle.refusals.specs.declared.Place.TheVariants.{Nowhere, At}
 use Rattle.refusals.specs.Limits.{number_tests, first_of}
 use Rattle.refusals.proofs.First.{by_test}
 use Rattle.refusals.proofs.Bad.{passes}
@@ -48,8 +46,6 @@ use Rattle.walk.proofs.Branches.{made}
 use Rattle.walk.proofs.Unmet.{never_met}
 use Rattle.walk.proofs.Origins.{length_spans, span-at}
 use Rattle.sheet.specs.Buffers.{Buffers, padded, no_origin, shown}
-use Rattle.job.specs.declared.RawOffsetAnswer.{RawOffsetAnswer}
-use Rattle.job.specs.declared.RawOffsetAnswer.TheVariants as Job
 use Rattle.job.specs.Verdict.{Verdict, refused, drawn, refuse◌at◌else◌, room_for, roomy_verdict, verdict_of}
 use Rattle.job.specs.Job.{Outcome, placed, has_room, job_of}
 use Rattle.job.specs.Layouts.{SameSource}
@@ -66,17 +62,17 @@ use Rattle.why.proofs.Roomless.{only_given}
 -- ---- the job's verdict, and the one with room for anything
 
 -- the tests from No. 2 on; the last is that of the room
-abbrev tested : Bool → Place → Bool → Bool → Verdict → Verdict
+abbrev tested : Bool → Option ℕ → Bool → Bool → Verdict → Verdict
 tested long p short fits next = when long give refused TooMany else refuse BadNumber at p else when short give drawn nothing else when not fits give refused NoRoom else next
 
-tight_or-same : (long : Bool) (p : Place) (short fits : Bool) (next : Verdict)
+tight_or-same : (long : Bool) (p : Option ℕ) (short fits : Bool) (next : Verdict)
     → (tested long p short fits next ≡ refused NoRoom) ⊎ (tested long p short fits next ≡ tested long p short true next)
 unfolding when◌give◌else◌
 tight_or-same long p short true next = inr refl
 tight_or-same true p short false next = inr refl
-tight_or-same false (At k) short false next = inr refl
-tight_or-same false Nowhere true false next = inr refl
-tight_or-same false Nowhere false false next = inl refl
+tight_or-same false (Some k) short false next = inr refl
+tight_or-same false None true false next = inr refl
+tight_or-same false None false false next = inl refl
 
 room_aside : (fits : ℕ → Bool) (closed : Bool) (σ : Settings) (vs : List PlineVertex)
     → (verdict_of fits closed σ vs ≡ refused NoRoom) ⊎ (verdict_of fits closed σ vs ≡ verdict_of (λ room. true) closed σ vs)
@@ -84,22 +80,22 @@ unfolding verdict_of roomy_verdict
 room_aside fits closed σ vs = tight_or-same (ltb 4096 (length vs)) (first_of (number_tests vs σ)) (ltb (length vs) 2) (fits (room_for σ.corners closed (length vs))) _
 
 -- what is answered where the job is not refused for room: its own refusal, or else what is told
-abbrev instead : Result Telling Refusal → RawOffsetAnswer → Result Telling Refusal
-instead told (Job.Done r) = told
-instead told (Job.Refused r) = Err r
+abbrev instead : Result Telling Refusal → Result RawOffsetResult Refusal → Result Telling Refusal
+instead told (Ok r) = told
+instead told (Err r) = Err r
 
 module _ (told : Result Telling Refusal) (room : ℕ) (old : Buffers) where
   by_verdict : (v : Verdict) → answer_by v told ≡ instead told (placed room v old).answer
   by_verdict (refused r) = refl
   by_verdict (drawn d) = refl
 
-  by_verdicts : (v v' : Verdict) → (v ≡ refused NoRoom) ⊎ (v ≡ v') → ((placed room v old).answer ≡ Job.Refused NoRoom → ⊥)
+  by_verdicts : (v v' : Verdict) → (v ≡ refused NoRoom) ⊎ (v ≡ v') → ((placed room v old).answer ≡ Err NoRoom → ⊥)
       → answer_by v' told ≡ instead told (placed room v old).answer
   by_verdicts v v' (inl e) h = absurd (h (ap (λ (x : Verdict). (placed room x old).answer) e))
   by_verdicts v v' (inr e) h = ap (λ (x : Verdict). answer_by x told) (sym e) ∙ by_verdict v
 
   by_length : (t : Bool) (v v' : Verdict) → (v ≡ refused NoRoom) ⊎ (v ≡ v')
-      → let o : Outcome = when t give placed 0 (refused Ragged) old else placed room v old in (o.answer ≡ Job.Refused NoRoom → ⊥)
+      → let o : Outcome = when t give placed 0 (refused Ragged) old else placed room v old in (o.answer ≡ Err NoRoom → ⊥)
       → (when t give Err Ragged else answer_by v' told) ≡ instead told o.answer
   unfolding when◌give◌else◌
   by_length true v v' e h = refl
@@ -109,14 +105,14 @@ module _ (j : Job) (k : ℕ) where
   abbrev told : Result Telling Refusal
   told = when eq j.settings.offset B.zero give copy_answer (segments_of j.closed (length (points j))) k else walk_answer j.closed j.settings (points j) k
 
-  by-job : ((outcome j).answer ≡ Job.Refused NoRoom → ⊥) → answered j k ≡ instead told (outcome j).answer
+  by-job : ((outcome j).answer ≡ Err NoRoom → ⊥) → answered j k ≡ instead told (outcome j).answer
   unfolding why_of job_of
   by-job = by_length told _ j.buffers (not (is_whole j.source)) _ _ (room_aside (has_room j.buffers) j.closed j.settings (points j))
 
-  by-refusal : (r : Refusal) → (outcome j).answer ≡ Job.Refused r → (r ≡ NoRoom → ⊥) → answered j k ≡ Err r
+  by-refusal : (r : Refusal) → (outcome j).answer ≡ Err r → (r ≡ NoRoom → ⊥) → answered j k ≡ Err r
   by-refusal r e n = by-job (λ q. n (cc)) ∙ ap (instead told) e
 
-  by-done : (r : RawOffsetResult) → (outcome j).answer ≡ Job.Done r → answered j k ≡ told
+  by-done : (r : RawOffsetResult) → (outcome j).answer ≡ Ok r → answered j k ≡ told
   by-done r e = by-job (λ q. true≢false (cc)) ∙ ap (instead told) e
 
 -- ---- reasons and flags
@@ -419,11 +415,11 @@ module _ (j : Job) (k : ℕ) where
   few-told (a ∷ []) l false = refl
   few-told (a ∷ b ∷ vs) l false = absurd (omega arith)
 
-  of-few : count j < 2 → (outcome j).answer ≡ Job.Done (result_of nothing) → OfDone j k (result_of nothing)
+  of-few : count j < 2 → (outcome j).answer ≡ Ok (result_of nothing) → OfDone j k (result_of nothing)
   of-few h e =
       none-there j k _ (by-done j k _ e ∙ few-told (points j) h (eq j.settings.offset B.zero)) (unfold when◌give◌else◌ in omega arith)
 
-  by_way : (w : Way j) → outcome j ≡ leads_to j w → (r : RawOffsetResult) → (leads_to j w).answer ≡ Job.Done r → OfDone j k r
+  by_way : (w : Way j) → outcome j ≡ leads_to j w → (r : RawOffsetResult) → (leads_to j w).answer ≡ Ok r → OfDone j k r
   by_way (ragged x) is r e = absurd (true≢false (cc))
   by_way (many x) is r e = absurd (true≢false (cc))
   by_way (bad i x) is r e = absurd (true≢false (cc))

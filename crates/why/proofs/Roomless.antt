@@ -6,7 +6,7 @@ use Prim.Native.Nat.{ℕ, zero, suc}
 use lib.Dec.{ltb}
 use lib.ListN.{length}
 use lib.Ieee.{eq}
-use Rattle.std.specs.Prelude.{Result, Ok, Err}
+use Rattle.std.specs.Prelude.{None, Option, Some, Result, Ok, Err}
 use Rattle.floats.specs.Binary64 as B
 use Rattle.floats.specs.Choice.{when◌give◌else◌}
 use Rattle.segments.specs.declared.PlineVertex.{PlineVertex}
@@ -14,8 +14,6 @@ use Rattle.segments.specs.declared.Settings.{Settings}
 use Rattle.source.specs.Source.{Lent, vertices_in, is_whole, segments_of}
 use Rattle.refusals.specs.declared.Refusal.{Refusal}
 use Rattle.refusals.specs.declared.Refusal.TheVariants.{BadNumber, Repeated}
-use Rattle.refusals.specs.declared.Place.{Place}
-use Rattle.refusals.specs.declared.Place.TheVariants.{Nowhere, At}
 use Rattle.refusals.specs.Limits.{number_tests, repeat_tests, first_of}
 use Rattle.moves.specs.declared.Move.{Move}
 use Rattle.moves.specs.Drawing.{Drawing, all_finite}
@@ -66,9 +64,9 @@ abbrev Decides : Verdict → Type 0
 Decides (refused r) = Given r
 Decides (drawn d) = Unit
 
-found_decides : (r : ℕ → Refusal) → ((k : ℕ) → Given (r k)) → (p : Place) (next : Verdict) → Decides next → Decides (refuse r at p else next)
-found_decides r g (At k) next h = g k
-found_decides r g Nowhere next h = h
+found_decides : (r : ℕ → Refusal) → ((k : ℕ) → Given (r k)) → (p : Option ℕ) (next : Verdict) → Decides next → Decides (refuse r at p else next)
+found_decides r g (Some k) next h = g k
+found_decides r g None next h = h
 
 finite_decides : (d : Drawing) → Decides (finite_verdict d)
 unfolding finite_verdict

@@ -8,7 +8,7 @@ use borrow.Author.Tests.{lt-ltb, le-ltb}
 use lib.Dec.{eqb}
 use lib.ListN.{length, drop}
 use lib.Ieee.{eq}
-use Rattle.std.specs.Prelude.{Result, Err}
+use Rattle.std.specs.Prelude.{None, Some, Result, Err}
 use Rattle.floats.specs.Binary64.{zero}
 use Rattle.floats.specs.Choice.{when◌give◌else◌}
 use Rattle.floats.proofs.Choice.{yes, no}
@@ -19,7 +19,6 @@ use Rattle.source.specs.InnerSteps.{vertex_of, next_of}
 use Rattle.source.proofs.Source.{whole_passes}
 use Rattle.source.proofs.Segments.{segments-none}
 use Rattle.refusals.specs.declared.Refusal.TheVariants.{Ragged, TooMany, BadNumber, Repeated, NotFinite, NoSuchSegment}
-use Rattle.refusals.specs.declared.Place.TheVariants.{Nowhere, At}
 use Rattle.refusals.specs.Limits.{number_tests, repeat_tests, first_of}
 use Rattle.moves.specs.Drawing.{all_finite}
 use Rattle.walk.specs.Walk.{drawing_of, copied}
@@ -93,7 +92,7 @@ module _ (closed : Bool) (σ : Settings) (vs : List PlineVertex) (k : ℕ) where
   unfolding good_answer
   copy-good e q = yes _ _ _ e q
 
-  pub repeated-good : eq σ.offset zero ≡ false → (i : ℕ) → first_of (repeat_tests closed vs) ≡ At i → Err (Repeated i) ≡ good_answer closed σ vs k
+  pub repeated-good : eq σ.offset zero ≡ false → (i : ℕ) → first_of (repeat_tests closed vs) ≡ Some i → Err (Repeated i) ≡ good_answer closed σ vs k
   unfolding good_answer distinct_verdict
   repeated-good e i h = no _ _ _ e (ap (λ (x : Verdict). answer_by x (walk_answer closed σ vs k)) (found _ i _ _ h))
 
@@ -105,7 +104,7 @@ module _ (closed : Bool) (σ : Settings) (vs : List PlineVertex) (k : ℕ) where
       by true = unfold when◌give◌else◌ in refl
       by false = unfold when◌give◌else◌ in refl
 
-  pub drawn-good : eq σ.offset zero ≡ false → first_of (repeat_tests closed vs) ≡ Nowhere → {a : Result Telling Refusal} → a ≡ drawn_answer closed σ vs k → a ≡ good_answer closed σ vs k
+  pub drawn-good : eq σ.offset zero ≡ false → first_of (repeat_tests closed vs) ≡ None → {a : Result Telling Refusal} → a ≡ drawn_answer closed σ vs k → a ≡ good_answer closed σ vs k
   unfolding good_answer distinct_verdict
   drawn-good e h q = no _ _ _ e (q ∙ finite-answer ∙ ap (λ (x : Verdict). answer_by x (walk_answer closed σ vs k)) (not_found _ _ _ h refl))
 
@@ -138,11 +137,11 @@ module _ (s : Lent) (closed : Bool) (σ : Settings) (k : ℕ) where
       few-enough : {a : Result Telling Refusal} {x : Verdict} → a ≡ answer_by x told → x ≡ verdict_of (λ room. true) closed σ vertices → a ≡ why_of s closed σ k
       few-enough q e = counted (q ∙ ap (λ (y : Verdict). answer_by y told) e)
 
-      pub bad-why : (i : ℕ) → first_of (number_tests vertices σ) ≡ At i → Err (BadNumber i) ≡ why_of s closed σ k
+      pub bad-why : (i : ℕ) → first_of (number_tests vertices σ) ≡ Some i → Err (BadNumber i) ≡ why_of s closed σ k
       unfolding verdict_of
       bad-why i e = few-enough refl (no _ _ _ (le-ltb 4096 (length vertices) (rw (← long) most)) (found _ i _ _ e))
 
-      module _ (e : first_of (number_tests vertices σ) ≡ Nowhere) where
+      module _ (e : first_of (number_tests vertices σ) ≡ None) where
         none_told : (vs : List PlineVertex) → length vs < 2
             → Err NoSuchSegment ≡ when eq σ.offset zero give copy_answer (segments_of closed (length vs)) k else walk_answer closed σ vs k
         unfolding when◌give◌else◌

@@ -18,7 +18,6 @@ use Rattle.moves.specs.Drawing.{move_end}
 use Rattle.moves.specs.Choice.{OneChoice}
 use Rattle.walk.specs.Spans.{Edge, whole_start, whole_end, starts_of, ends_of}
 use Rattle.walk.specs.Branches.{Is, Made}
-use Rattle.job.specs.declared.RawOffsetAnswer.TheVariants as Job
 use Rattle.job.specs.Rows.{Job, outcome}
 use Rattle.job.specs.Demand3.{close, WalkOf}
 use Rattle.why.specs.declared.Telling.{Telling}
@@ -86,7 +85,7 @@ pub record OfDone (j : Job) (k : ℕ) (r : RawOffsetResult) : Type 0 where
 
 pub record Claim (j : Job) (k : ℕ) : Type 0 where
   -- a job that is refused, but for room, is refused here
-  pub refused : (r : Refusal) → (outcome j).answer ≡ Job.Refused r → (r ≡ NoRoom → ⊥) → answered j k ≡ Err r
+  pub refused : (r : Refusal) → (outcome j).answer ≡ Err r → (r ≡ NoRoom → ⊥) → answered j k ≡ Err r
   -- a refusal here is one of those six: room is never asked for
   pub only : (r : Refusal) → answered j k ≡ Err r → Given r
-  pub done : (r : RawOffsetResult) → (outcome j).answer ≡ Job.Done r → OfDone j k r
+  pub done : (r : RawOffsetResult) → (outcome j).answer ≡ Ok r → OfDone j k r

@@ -21,8 +21,9 @@ ghost use Rattle.why.specs.InnerSteps.{Noted, noted, telling_in, told_if, note_o
 use joins::{JoinBoundary, JoinCause};
 use meetings::ArcRule;
 use moves::{Move, Origin, Pen, Reason, Stroke};
-use refusals::{MOST_VERTICES, Place, Refusal};
+use refusals::{MOST_VERTICES, Refusal};
 use segments::{CarriedSeg, OutputSegment, PlineVertex, Settings, SourceSegment};
+use source::Rows;
 use walk::Walk;
 
 // What is told of an output segment. The parameters are those of a span that turned back, and else zero;
@@ -455,8 +456,7 @@ fn ask_good(
     if settings.offset == 0.0 {
         return ask_copy(source::segment_count(v, closed), segment);
     }
-    let repeated = refusals::first_repeated(false, source, source, source, v, closed);
-    if let Place::At(k) = repeated {
+    if let Some(k) = refusals::first_repeated(Rows(source), closed) {
         return Err(Refusal::Repeated(k));
     }
     if closed {
@@ -502,8 +502,7 @@ pub fn why(
     if MOST_VERTICES < v {
         return Err(Refusal::TooMany);
     }
-    let bad = refusals::first_bad_number(false, source, source, source, v, settings);
-    if let Place::At(k) = bad {
+    if let Some(k) = refusals::first_bad_number(Rows(source), settings) {
         return Err(Refusal::BadNumber(k));
     }
     if v < 2 {

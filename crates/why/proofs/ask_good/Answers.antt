@@ -7,28 +7,23 @@ pub returns-then-settings : goal.returns-then-settings
 returns-then-settings c =
     copy-good _ _ _ _ c.if-settings.true (c.ask_copy.ensures ∙ rw (c.segment_count.ensures, c.requires.long))
 
-pub first_repeated-repeated-requires : goal.first_repeated-repeated-requires
-first_repeated-repeated-requires c = let pre = c.requires in
-    record {
-      le_v = pre.two;
-      v_bound = pre.most;
-      v_value = pre.long;
-    }
+pub first_repeated-requires : goal.first_repeated-requires
+first_repeated-requires c = let pre = c.requires in (rw pre.long at pre.two, rw pre.long at pre.most)
 
-pub returns-in-At : goal.returns-in-At
-returns-in-At c =
-    repeated-good _ _ _ _ c.if-settings.false _ (sym c.first_repeated-repeated.ensures ∙ c.in-At.is)
+pub returns-in-Some : goal.returns-in-Some
+returns-in-Some c =
+    repeated-good _ _ _ _ c.if-settings.false _ (sym c.first_repeated.ensures ∙ c.in-Some.is)
 
 pub ask_closed-requires : goal.ask_closed-requires
 ask_closed-requires c = c.requires
 
 pub returns-then-closed : goal.returns-then-closed
 returns-then-closed c =
-    rw c.if-closed.true (drawn-good _ _ _ _ c.if-settings.false (rw c.if-closed.true at (sym c.first_repeated-repeated.ensures ∙ c.in_default.is)) c.ask_closed.ensures)
+    rw c.if-closed.true (drawn-good _ _ _ _ c.if-settings.false (rw c.if-closed.true at (sym c.first_repeated.ensures ∙ c.in_default.is)) c.ask_closed.ensures)
 
 pub ask_open-requires : goal.ask_open-requires
 ask_open-requires c = c.requires
 
 pub returns : goal.returns
 returns c =
-    rw c.if-closed.false (drawn-good _ _ _ _ c.if-settings.false (rw c.if-closed.false at (sym c.first_repeated-repeated.ensures ∙ c.in_default.is)) c.ask_open.ensures)
+    rw c.if-closed.false (drawn-good _ _ _ _ c.if-settings.false (rw c.if-closed.false at (sym c.first_repeated.ensures ∙ c.in_default.is)) c.ask_open.ensures)
