@@ -20,7 +20,8 @@ use Rattle.moves.specs.Drawing.{Drawing, bit}
 use Rattle.walk.specs.Walk.{moves_a_segment}
 use Rattle.walk.proofs.Lengths.{moves-few}
 use Rattle.sheet.specs.Buffers.{Buffers, buffers}
-use Rattle.sheet.specs.InnerSteps.{no_places, Laid, laid, stores, Rooms, written}
+use Rattle.sheet.specs.InnerSteps.{Loaned, SameLoans, held, lent, no_places, Laid, laid, stores, Rooms, written}
+use Rattle.sheet.specs.declared.lent.Marks.{Marks}
 use Rattle.sheet.proofs.Stored.{stores-append}
 use Rattle.sheet.proofs.Storing.{room_fewer}
 use Rattle.course.specs.declared.Course.{Course}
@@ -31,8 +32,8 @@ use Rattle.pieces.specs.declared.OpenJob.{OpenJob}
 use Rattle.pieces.specs.declared.Taken.{Taken}
 use Rattle.pieces.specs.declared.DrawAnswer.{DrawAnswer}
 use Rattle.pieces.specs.Calls.{drawing, refused, answering, called, handed_out, staged, drawn_call}
-use Rattle.pieces.specs.InnerSteps.{rows_held, Went, went, went_one, went_all, none_taken, counted, taken_answer, taken_job}
-use Rattle.pieces.proofs.Stored.{Rows, stores-rows, numbers-few, stores-written, written_out}
+use Rattle.pieces.specs.InnerSteps.{Went, went, went_one, went_all, none_taken, counted, taken_answer, taken_job}
+use Rattle.pieces.proofs.Stored.{Rows, stores-rows, numbers-few, stores-written, written_out, written_same}
 use Rattle.pieces.proofs.Went.{step-few, step_counts, open_taken}
 
 -- ---- one vertex, and all: the strokes ss are stored from l on
@@ -108,27 +109,27 @@ module _ (σ : Settings) (l : Laid) where
 
 -- ---- a call
 
-module _ (σ : Settings) (j : OpenJob) (w : Course) (vs : List PlineVertex) (t : Taken) (ns ns' : List Float) (f i o f' i' o' : List ℕ) where
+module _ (σ : Settings) (j : OpenJob) (w : Course) (vs : List PlineVertex) (t : Taken) (v v' : Loaned) (m m' : Marks) where
   abbrev d : Drawn
   d = draw_all σ vs (none_drawn w)
 
   abbrev room : ℕ
   room = moves_a_segment σ.corners * length vs
 
-  module _ {σ' : Settings} {t₀ : Taken} (rooms : Rooms room (laid no_places (rows_held ns f i o))) (asked : σ' ≡ σ) (first : t₀ ≡ none_taken w)
-      (e : went t (rows_held ns' f' i' o') ≡ went_all σ' vs (went t₀ (rows_held ns f i o))) where
+  module _ {σ' : Settings} {t₀ : Taken} (rooms : Rooms room (laid no_places (held v m))) (asked : σ' ≡ σ) (first : t₀ ≡ none_taken w)
+      (e : went t (held v' m') ≡ went_all σ' vs (went t₀ (held v m))) where
     abbrev l : Laid
-    l = laid no_places (rows_held ns f i o)
+    l = laid no_places (held v m)
 
-    pub all : Along σ l (went_all σ vs (went (none_taken w) (rows_held ns f i o))) d room 0 w.taken
+    pub all : Along σ l (went_all σ vs (went (none_taken w) (held v m))) d room 0 w.taken
     unfolding stores numbers_by
     all = let a = along σ l vs [] w 0 in record { strokes = a.strokes; code = a.code; rules = a.rules; few = omega (arith, a.few); grows = a.grows; most = a.most }
 
     abbrev ss : List Stroke
     ss = all.strokes
 
-    is : went t (rows_held ns' f' i' o') ≡ record { laid = stores ss l; course = d.course; refusal = d.refusal }
-    is = e ∙ (λ x. went_all (asked x) vs (went (first x) (rows_held ns f i o))) ∙ all.code
+    is : went t (held v' m') ≡ record { laid = stores ss l; course = d.course; refusal = d.refusal }
+    is = e ∙ (λ x. went_all (asked x) vs (went (first x) (held v m))) ∙ all.code
 
     fits : Rooms (length ss) l
     fits = room_fewer all.few rooms
@@ -145,14 +146,19 @@ module _ (σ : Settings) (j : OpenJob) (w : Course) (vs : List PlineVertex) (t :
     pub few-counts : w.taken ≤ 4096 → (t.places.strokes < 0x1_0000_0000) × (t.places.marks < 0x1_0000_0000)
     few-counts h =
         let n = strokes_are in
-        let m = marks_are in
+        let q = marks_are in
         let k = all.most h in
         (omega (arith, all.grows), omega (arith, all.grows, numbers-few ss))
 
-    out : buffers (rows ns') f' i' (origins_in o') ≡ handed_out d.piece (buffers (rows ns) f i (origins_in o))
+    whole : held v' m' ≡ written d.piece (held v m)
+    whole = ap (λ (g : Went). g.laid.buffers) is ∙ stores-written ss no_places (held v m) refl fits ∙ ap (λ (x : Drawing). written x (held v m)) (sym all.rules)
+
+    pub drawn-same : SameLoans v m v' m'
+    drawn-same = written_same v v' m m' d.piece whole
+
+    out : lent v' m' ≡ handed_out d.piece (lent v m)
     out =
-        written_out ns ns' f i o f' i' o' d.piece (let k = length-map ss (λ (s : Stroke). s.vertex) in rw all.rules (omega (arith, fits.vertices)))
-        (ap (λ (g : Went). g.laid.buffers) is ∙ stores-written ss no_places (rows_held ns f i o) refl fits ∙ ap (λ (x : Drawing). written x (rows_held ns f i o)) (sym all.rules))
+        written_out v v' m m' d.piece (let k = length-map ss (λ (s : Stroke). s.vertex) in rw all.rules (omega (arith, fits.vertices))) whole
 
     vertices_are : t.places.strokes ≡ length d.piece.vertices
     vertices_are = strokes_are ∙ sym (ap (λ (x : Drawing). length x.vertices) all.rules ∙ length-map ss (λ (s : Stroke). s.vertex))
@@ -167,7 +173,7 @@ module _ (σ : Settings) (j : OpenJob) (w : Course) (vs : List PlineVertex) (t :
     counts p q = λ x. record { number = p x; place = q x; vertices = vertices_are x; indexes = indexes_are x; segments = segments_are x }
 
     pub drawn-called : {a : DrawAnswer} {j' : OpenJob} → a ≡ taken_answer t → j' ≡ taken_job t j
-        → called a j' (buffers (rows ns') f' i' (origins_in o')) ≡ drawn_call j d (buffers (rows ns) f i (origins_in o))
+        → called a j' (lent v' m') ≡ drawn_call j d (lent v m)
     unfolding taken_answer taken_job drawn_call
     drawn-called {a} {j'} p q = (λ x. called ((p ∙ answer) x) ((q ∙ job) x) (out x)) ∙ by (eqb d.refusal 0)
       where
@@ -190,7 +196,7 @@ module _ (σ : Settings) (j : OpenJob) (w : Course) (vs : List PlineVertex) (t :
         job = λ x. when eqb (r x) 0 give staged drawing 0 0 (c x) j else staged refused (r x) (c x).taken (c x) j
 
         after : Buffers
-        after = handed_out d.piece (buffers (rows ns) f i (origins_in o))
+        after = handed_out d.piece (lent v m)
 
         by : (z : Bool) → called (when z give answering 0 0 d.piece else answering d.refusal d.course.taken d.piece)
             (when z give staged drawing 0 0 d.course j else staged refused d.refusal d.course.taken d.course j) after

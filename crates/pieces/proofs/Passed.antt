@@ -16,7 +16,7 @@ use Rattle.segments.specs.declared.Settings.{Settings}
 use Rattle.segments.specs.declared.PlineVertex.{PlineVertex}
 use Rattle.source.specs.Source.{segments_of, around}
 use Rattle.source.proofs.Segments.{segments_open, segments-none}
-use Rattle.refusals.specs.declared.Place.TheVariants.{Nowhere}
+use Rattle.std.specs.Prelude.{None}
 use Rattle.refusals.specs.Limits.{good_vertex, good_offset, good_eps, good_corners, number_tests, repeats, neighbour_tests, repeat_tests, first_from, first_of}
 use Rattle.refusals.proofs.NumberRow.{number_nowhere}
 use Rattle.refusals.proofs.RepeatedRow.{repeated_nowhere}
@@ -41,18 +41,18 @@ use Rattle.pieces.proofs.Handed.{shown_read}
 
 -- ---- tests of which none holds
 
-test_fails : (k : ℕ) (b : Bool) (bs : List Bool) → first_from k (b ∷ bs) ≡ Nowhere → (b ≡ false) × (first_from (suc k) bs ≡ Nowhere)
+test_fails : (k : ℕ) (b : Bool) (bs : List Bool) → first_from k (b ∷ bs) ≡ None → (b ≡ false) × (first_from (suc k) bs ≡ None)
 unfolding first_from
 test_fails k true bs h = let z : ◌≡◌ {A = ℕ} 0 1 = cc in absurd (omega arith)
 test_fails k false bs h = (refl, h)
 
 module _ (σ : Settings) where
-  good-vertex : (k : ℕ) (us : List PlineVertex) (c : PlineVertex) (ws : List PlineVertex) → first_from k (number_tests (us ++ c ∷ ws) σ) ≡ Nowhere → good_vertex c ≡ true
+  good-vertex : (k : ℕ) (us : List PlineVertex) (c : PlineVertex) (ws : List PlineVertex) → first_from k (number_tests (us ++ c ∷ ws) σ) ≡ None → good_vertex c ≡ true
   unfolding number_tests
   good-vertex k [] c ws h = not-false _ (test_fails k _ _ h).0
   good-vertex k (u ∷ us) c ws h = good-vertex (suc k) us c ws (test_fails k _ _ h).1
 
-  good-settings : (k : ℕ) (vs : List PlineVertex) → first_from k (number_tests vs σ) ≡ Nowhere → (good_offset σ.offset and (good_eps σ.eps and good_corners σ.corners)) ≡ true
+  good-settings : (k : ℕ) (vs : List PlineVertex) → first_from k (number_tests vs σ) ≡ None → (good_offset σ.offset and (good_eps σ.eps and good_corners σ.corners)) ≡ true
   unfolding number_tests
   good-settings k [] h =
       let o = test_fails k _ _ h in
@@ -61,7 +61,7 @@ module _ (σ : Settings) where
       (both_pass _ _).1 (not-false _ o.0, (both_pass _ _).1 (not-false _ e.0, not-false _ c.0))
   good-settings k (v ∷ vs) h = good-settings (suc k) vs (test_fails k _ _ h).1
 
-apart-pair : (k : ℕ) (us : List PlineVertex) (a b : PlineVertex) (ws : List PlineVertex) → first_from k (neighbour_tests (us ++ a ∷ b ∷ ws)) ≡ Nowhere → repeats a b ≡ false
+apart-pair : (k : ℕ) (us : List PlineVertex) (a b : PlineVertex) (ws : List PlineVertex) → first_from k (neighbour_tests (us ++ a ∷ b ∷ ws)) ≡ None → repeats a b ≡ false
 unfolding neighbour_tests
 apart-pair k [] a b ws h = (test_fails k _ _ h).0
 apart-pair k (u ∷ []) a b ws h = apart-pair (suc k) [] a b ws (test_fails k _ _ h).1
@@ -161,7 +161,7 @@ module _ (j : Job) (unclosed : j.closed ≡ false) where
       (λ z. ap (λ (c : Bool). all_finite (drawing_of c σ (points j)).vertices) (sym unclosed) ∙ f) (drawn_plain σ (points j)) r.vertices
       (ap (λ (c : Bool). placed (places j) (drawn (drawing_of c σ (points j))) j.buffers) (sym unclosed) ∙ ends j (whole d f))
     where
-      unrepeated : (us : List PlineVertex) (a b : PlineVertex) (ws : List PlineVertex) → us ++ a ∷ b ∷ ws ≡ points j → first_of (repeat_tests false (points j)) ≡ Nowhere → repeats a b ≡ false
+      unrepeated : (us : List PlineVertex) (a b : PlineVertex) (ws : List PlineVertex) → us ++ a ∷ b ∷ ws ≡ points j → first_of (repeat_tests false (points j)) ≡ None → repeats a b ≡ false
       unrepeated us a b ws q h = unfold repeat_tests around when◌give◌else◌ in apart-pair 0 us a b ws (ap (λ (vs : List PlineVertex). first_of (neighbour_tests vs)) q ∙ h)
 
   pub passed : number (outcome j).answer ≡ 0 → Passed j

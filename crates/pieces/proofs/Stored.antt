@@ -21,7 +21,8 @@ use Rattle.moves.specs.Drawing.{Drawing, bit, mark}
 use Rattle.walk.specs.InnerSteps.{drawn_by}
 use Rattle.sheet.specs.declared.Places.{Places}
 use Rattle.sheet.specs.Buffers.{buffers, padded}
-use Rattle.sheet.specs.InnerSteps.{Held, held_by, Contents, contents, held, fitting, making, blank, no_places, Laid, laid, put_at, stored, stores, Rooms, over, over_at, written}
+use Rattle.sheet.specs.InnerSteps.{Loaned, SameLoans, lent, held_by, Contents, contents, held, fitting, making, blank, no_places, Laid, laid, stored, stores, Rooms, over, over_at, written}
+use Rattle.sheet.specs.declared.lent.Marks.{Marks}
 use Rattle.sheet.proofs.Holding.{lent-shown}
 use Rattle.sheet.proofs.Stored.{stores-append}
 use Rattle.sheet.proofs.Storing.{stores-last, stores-room, room_fewer}
@@ -29,35 +30,11 @@ use Rattle.course.specs.declared.Turning.{Turning}
 use Rattle.course.specs.InnerSteps.{numbers_by, vertices_by, piece_by, strokes_in}
 use Rattle.course.proofs.Strokes.{drawn-yes}
 use Rattle.pieces.specs.Calls.{handed_out}
-use Rattle.pieces.specs.InnerSteps.{rows_held}
-
--- ---- in rows there are no other lists
-
-rows-only : (xs ys bs ns : List Float) (vs : List PlineVertex) → held_by false xs ys bs ≡ making vs (held_by false ns [] []) → held_by false xs [] [] ≡ making vs (held_by false ns [] [])
-unfolding held_by
-rows-only xs ys bs ns vs e =
-    let y : ys ≡ [] = ap (λ (h : Held). get_or h.beyond 1 []) e in
-    let b : bs ≡ [] = ap (λ (h : Held). get_or h.beyond 2 []) e in
-    subst (λ (l : List Float). held_by false xs [] l ≡ making vs (held_by false ns [] [])) b (subst (λ (l : List Float). held_by false xs l bs ≡ making vs (held_by false ns [] [])) y e)
-
-pub put-rows : (xs ys bs ns : List Float) (k : ℕ) (v : PlineVertex) → held_by false xs ys bs ≡ put_at (held_by false ns [] []) k v → held_by false xs [] [] ≡ put_at (held_by false ns [] []) k v
-put-rows xs ys bs ns k v e = rows-only xs ys bs ns _ e
 
 -- a stroke, if it is drawn
-module _ (st : Stepped) (p r : Places) (xs ys bs ns : List Float) (f i o f' i' o' : List ℕ) where
-  abbrev lent : Laid
-  lent = laid p (rows_held ns f i o)
-
-  pub store-rows : laid r (held false xs ys bs f' i' o') ≡ when st.kept give stored st.stroke lent else lent → laid r (rows_held xs f' i' o') ≡ stores (drawn_by 0 st) lent
-  unfolding drawn_by ◌and◌
-  store-rows e = ap (λ (h : Held). record { places = (laid r (held false xs ys bs f' i' o')).places; buffers = record { vertices = h; flags = f'; indexes = i'; origins = (held false xs ys bs f' i' o').origins } }) only ∙ e ∙ sym (stores-last st.kept st.stroke lent)
-    where
-      made : (t : Bool) → (when t give stored st.stroke lent else lent).buffers.vertices ≡ making (when t give stored st.stroke lent else lent).buffers.vertices.made (held_by false ns [] [])
-      made true = unfold when◌give◌else◌ stored in refl
-      made false = unfold when◌give◌else◌ in refl
-
-      only : held_by false xs [] [] ≡ held_by false xs ys bs
-      only = rows-only xs ys bs ns _ (ap (λ (l : Laid). l.buffers.vertices) e ∙ made st.kept) ∙ sym (ap (λ (l : Laid). l.buffers.vertices) e ∙ made st.kept)
+pub store-drawn : (st : Stepped) (l : Laid) → (when st.kept give stored st.stroke l else l) ≡ stores (drawn_by 0 st) l
+unfolding drawn_by ◌and◌
+store-drawn st l = sym (stores-last st.kept st.stroke l)
 
 pub store-room : (st : Stepped) {l : Laid} → Rooms (length (drawn_by 0 st)) l → st.kept ≡ true → Rooms 1 l
 store-room st {l} w h = subst (λ (ss : List Stroke). Rooms (length ss) l) (drawn-yes st h) w
@@ -113,10 +90,11 @@ pub record Rows (ss : List Stroke) (l l' : Laid) : Type 0 where
   pub flags : l'.buffers.flags ≡ sets l.buffers.flags l.places.strokes (piece_by ss).flags
   pub indexes : l'.buffers.indexes ≡ sets l.buffers.indexes l.places.marks (numbers_by ss)
   pub origins : l'.buffers.origins ≡ sets l.buffers.origins l.places.strokes (piece_by ss).origins
+  pub loans : l'.buffers.loans ≡ l.buffers.loans
 
 pub stores-rows : (ss : List Stroke) (l : Laid) → Rows ss l (stores ss l)
 unfolding stores numbers_by
-stores-rows [] l = record { strokes = omega arith; marks = omega arith; vertices = refl; flags = refl; indexes = refl; origins = refl }
+stores-rows [] l = record { strokes = omega arith; marks = omega arith; vertices = refl; flags = refl; indexes = refl; origins = refl; loans = refl }
 stores-rows (s ∷ ss) l =
     let i = is_invalid s.reason in
     let r = stores-rows ss (stored s l) in
@@ -130,6 +108,7 @@ stores-rows (s ∷ ss) l =
       flags = r.flags ∙ (unfold stored in rw o);
       indexes = r.indexes ∙ (unfold stored in x);
       origins = r.origins ∙ (unfold stored in rw o);
+      loans = r.loans ∙ (unfold stored in refl);
     }
 
 pub numbers-few : (ss : List Stroke) → length (numbers_by ss) ≤ length ss
@@ -162,20 +141,23 @@ stores-written ss p b e w =
     let fs : (stores ss (laid p b)).buffers.flags ≡ over (piece_by ss).flags b.flags = r.flags ∙ rw (z, f) in
     let is : (stores ss (laid p b)).buffers.indexes ≡ over (numbers_by ss) b.indexes = r.indexes ∙ rw (y, i) in
     let os : (stores ss (laid p b)).buffers.origins ≡ over (piece_by ss).origins b.origins = r.origins ∙ rw (z, o) in
-    λ k. contents (vs k) (fs k) (is k) (os k)
+    λ k. contents (vs k) (fs k) (is k) (os k) (r.loans k)
 
 -- ---- a piece in the first places of the buffers, and all others as they were
 
 padded_own : {A : Type 0} (z : A) (xs old : List A) → padded z (length xs) xs old ≡ over xs old
 padded_own z xs old = let e : length xs - length xs ≡ 0 = omega arith in rw (e, append-nil xs)
 
-module _ (ns ns' : List Float) (f i o f' i' o' : List ℕ) (d : Drawing) where
-  pub written_out : length d.vertices ≤ fitting (rows_held ns f i o) → rows_held ns' f' i' o' ≡ written d (rows_held ns f i o)
-      → buffers (rows ns') f' i' (origins_in o') ≡ handed_out d (buffers (rows ns) f i (origins_in o))
+module _ (l l' : Loaned) (m m' : Marks) (d : Drawing) where
+  pub written_out : length d.vertices ≤ fitting (held l m) → held l' m' ≡ written d (held l m) → lent l' m' ≡ handed_out d (lent l m)
   unfolding handed_out
   written_out fits e =
-      let v = lent-shown false ns [] [] ns' [] [] (length d.vertices) d.vertices fits (ap (λ (b : Contents). b.vertices) e ∙ rw (padded_own blank d.vertices)) in
+      let v = lent-shown l l' (length d.vertices) d.vertices fits (ap (λ (b : Contents). b.vertices) e ∙ rw (padded_own blank d.vertices)) in
       let flags = ap (λ (b : Contents). b.flags) e in
       let indexes = ap (λ (b : Contents). b.indexes) e in
       let origins = ap (λ (b : Contents). b.origins) e in
       rw (v, flags, indexes, origins, padded_own, padded_own, padded_own)
+
+  pub written_same : held l' m' ≡ written d (held l m) → SameLoans l m l' m'
+  unfolding held_by
+  written_same e = record { vertices = ap (λ (b : Contents). b.vertices.loans) e; marks = ap (λ (b : Contents). b.loans) e }

@@ -14,7 +14,6 @@ use Rattle.floats.proofs.Choice.{yes, no, both_pass}
 use Rattle.segments.specs.declared.Settings.{Settings}
 use Rattle.segments.specs.Modes.{are_pointed}
 use Rattle.source.specs.Source.{rows, vertices_of, is_whole}
-use Rattle.source.proofs.Source.{count-is}
 use Rattle.refusals.specs.declared.Refusal.TheVariants.{Ragged, NoRoom}
 use Rattle.refusals.specs.Table.{number_of}
 use Rattle.moves.specs.Origins.{origins_in}
@@ -23,8 +22,9 @@ use Rattle.moves.proofs.Origins.{origins-length}
 use Rattle.walk.specs.Walk.{moves_a_segment}
 use Rattle.walk.proofs.Lengths.{moves-few}
 use Rattle.sheet.specs.Buffers.{Buffers, buffers}
-use Rattle.sheet.specs.InnerSteps.{no_places, laid, Rooms}
-use Rattle.sheet.proofs.Holding.{held-count}
+use Rattle.sheet.specs.InnerSteps.{Loaned, held_by, held, lent, no_places, laid, Rooms}
+use Rattle.sheet.specs.declared.lent.Marks.{Marks}
+use Rattle.sheet.proofs.Holding.{held-made}
 use Rattle.sheet.proofs.Products.{product_most}
 use Rattle.job.specs.Job.{has_room}
 use Rattle.job.specs.InnerSteps.{moves_if}
@@ -35,23 +35,21 @@ use Rattle.course.specs.Course.{draw_all, none_drawn, end_piece, end_refusal}
 use Rattle.pieces.specs.declared.OpenJob.{OpenJob}
 use Rattle.pieces.specs.declared.DrawAnswer.{DrawAnswer}
 use Rattle.pieces.specs.Calls.{settings_of, most_number, is_open, answering, Called, called, handed_out, staged, ended, refused, shut_answer, drawn_call, draw_call, end_call}
-use Rattle.pieces.specs.InnerSteps.{rows_held}
 
 -- ---- room
 
-module _ (n : ℕ) (ns : List Float) (f i o : List ℕ) where
+module _ (n : ℕ) (l : Loaned) (m : Marks) where
   abbrev tests : Bool
-  tests = leb n (length ns / 3) and (leb n (length f) and (leb n (length i) and leb n (length o)))
+  tests = leb n (length (held_by l).made) and (leb n (length m.flags.now) and (leb n (length m.indexes.now) and leb n (length m.origins.now)))
 
-  pub room_tested : tests ≡ has_room (buffers (rows ns) f i (origins_in o)) n
+  pub room_tested : tests ≡ has_room (lent l m) n
   unfolding has_room
-  room_tested = rw (count-is false ns [] [], origins-length o)
+  room_tested = rw (held-made l, origins-length m.origins.now)
 
-  pub room_had : tests ≡ true → Rooms n (laid no_places (rows_held ns f i o))
+  pub room_had : tests ≡ true → Rooms n (laid no_places (held l m))
   room_had h =
-      let fit = all_fit n (length ns / 3) (length f) (length i) (length o) h in
-      let k = held-count false ns [] [] in
-      record { vertices = omega (arith, fit.0); flags = omega (arith, fit.1); indexes = omega (arith, fit.2); origins = omega (arith, fit.3, origins-length o) }
+      let fit = all_fit n (length (held_by l).made) (length m.flags.now) (length m.indexes.now) (length m.origins.now) h in
+      record { vertices = omega (arith, fit.0); flags = omega (arith, fit.1); indexes = omega (arith, fit.2); origins = omega (arith, fit.3, origins-length m.origins.now) }
 
 -- ---- an open job
 
@@ -96,23 +94,20 @@ module _ (j : OpenJob) (source : List Float) (old : Buffers) where
       unfolding draw_call
       draw-goes r e = no _ _ _ h (no _ _ _ k (no _ _ _ r e))
 
--- the room of the code is that of the rules: t is what its test answers
-module _ (j : OpenJob) (source ns : List Float) (f i o : List ℕ) {p t : Bool} {m : ℕ} (a : p ≡ are_pointed (settings_of j).corners) (b : m ≡ moves_if p)
-    (r : t ≡ (leb (m * (length source / 3)) (length ns / 3) and (leb (m * (length source / 3)) (length f) and (leb (m * (length source / 3)) (length i) and leb (m * (length source / 3)) (length o))))) where
+-- the room of the code is that of the rules: v counts the source's vertices, and t is what its test answers
+module _ (j : OpenJob) (source : List Float) (l : Loaned) (k : Marks) {p t : Bool} {m v : ℕ} (a : p ≡ are_pointed (settings_of j).corners) (b : m ≡ moves_if p) (n : v ≡ length (vertices_of source))
+    (r : t ≡ (leb (m * v) (length (held_by l).made) and (leb (m * v) (length k.flags.now) and (leb (m * v) (length k.indexes.now) and leb (m * v) (length k.origins.now))))) where
   moves-told : m ≡ moves_a_segment (settings_of j).corners
   moves-told = b ∙ ap moves_if a ∙ moves_if_lem (settings_of j).corners
 
-  pub same-room : not t ≡ not (has_room (buffers (rows ns) f i (origins_in o)) (moves_a_segment (settings_of j).corners * length (vertices_of source)))
+  pub same-room : not t ≡ not (has_room (lent l k) (moves_a_segment (settings_of j).corners * length (vertices_of source)))
   same-room =
-      let e : t ≡ has_room (buffers (rows ns) f i (origins_in o)) (moves_a_segment (settings_of j).corners * length (vertices_of source)) =
-      r ∙ room_tested (m * (length source / 3)) ns f i o ∙ rw (moves-told, count-is false source [] []) in
+      let e : t ≡ has_room (lent l k) (moves_a_segment (settings_of j).corners * length (vertices_of source)) =
+      r ∙ room_tested (m * v) l k ∙ rw (moves-told, n) in
       ap not e
 
-  pub room_rules : not t ≡ false → Rooms (moves_a_segment (settings_of j).corners * (length source / 3)) (laid no_places (rows_held ns f i o))
-  room_rules h = rw (← moves-told) (room_had (m * (length source / 3)) ns f i o (sym r ∙ not-false t h))
-
-pub count-rows : (source : List Float) → length source / 3 ≡ length (vertices_of source)
-count-rows source = sym (count-is false source [] [])
+  pub room_rules : not t ≡ false → Rooms (moves_a_segment (settings_of j).corners * length (vertices_of source)) (laid no_places (held l k))
+  room_rules h = rw (← moves-told, ← n) (room_had (m * v) l k (sym r ∙ not-false t h))
 
 -- ---- the end
 

@@ -7,7 +7,7 @@ use Rattle.segments.specs.Modes.{are_pointed}
 use Rattle.walk.specs.Walk.{moves_a_segment}
 use Rattle.moves.specs.Drawing.{bit}
 use Rattle.sheet.specs.declared.Places.{Places}
-use Rattle.sheet.specs.InnerSteps.{Contents, held, no_places, Laid, laid, stores, Rooms}
+use Rattle.sheet.specs.InnerSteps.{Contents, no_places, Laid, laid, stores, Rooms}
 use Rattle.course.specs.declared.Course.{Course}
 use Rattle.course.specs.declared.Ending.{Ending}
 use Rattle.course.specs.Course.{step_on, refusal_of}
@@ -16,10 +16,6 @@ use Rattle.pieces.specs.declared.Taken.{Taken}
 use Rattle.pieces.specs.declared.OpenJob.{OpenJob}
 use Rattle.pieces.specs.declared.DrawAnswer.{DrawAnswer}
 use Rattle.pieces.specs.Calls.{drawing, refused, staged}
-
--- what four buffers hold in rows
-abbrev pub rows_held : List Float → List ℕ → List ℕ → List ℕ → Contents
-rows_held vs f i o = held false vs [] [] f i o
 
 -- how far vertices are taken, and what is stored of them
 pub record Went : Type 0 where

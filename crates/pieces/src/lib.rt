@@ -7,24 +7,23 @@ ghost use Rattle.std.specs.Float.Ieee.{eq};
 ghost use Rattle.floats.specs.Binary64.{zero};
 ghost use Rattle.floats.specs.Choice.{when◌give◌else◌, ◌and◌, ◌or◌};
 ghost use Rattle.segments.specs.Modes.{are_pointed};
-ghost use Rattle.source.specs.Source.{rows, vertices_of};
-ghost use Rattle.moves.specs.Origins.{origins_in};
+ghost use Rattle.source.specs.Source.{vertices_of};
 ghost use Rattle.moves.specs.Drawing.{nothing, all_finite};
 ghost use Rattle.refusals.specs.Table.{number_of};
 ghost use Rattle.refusals.specs.Limits.{good_offset, good_eps, good_corners};
-ghost use Rattle.sheet.specs.Buffers.{buffers};
-ghost use Rattle.sheet.specs.InnerSteps.{held_by, no_places, laid, put_at, stores, Rooms, Coded, written};
+ghost use Rattle.sheet.specs.InnerSteps.{held_by, held, lent, SameLoans, no_places, laid, stores, Rooms, Coded, written};
 ghost use Rattle.walk.specs.InnerSteps.{drawn_by};
 ghost use Rattle.course.specs.InnerSteps.{vertices_by, strokes_in, CodedAll, ending_piece};
 ghost use Rattle.pieces.specs.Calls.{settings_of, most_number, is_open, was_refused, answering, called, staged, shut_answer, ratio_of, begun, started, start_call, draw_call, end_call};
 ghost use Rattle.pieces.specs.Handed.{five_of};
-ghost use Rattle.pieces.specs.InnerSteps.{rows_held, went, went_one, went_all, Ready, none_taken, taken_answer, taken_job, end_counts};
+ghost use Rattle.pieces.specs.InnerSteps.{went, went_one, went_all, Ready, none_taken, taken_answer, taken_job, end_counts};
 
 use course::{Course, Ending, Turning};
 use moves::{Stepped, Stroke};
 use refusals::Refusal;
 use segments::{Corners, PlineVertex, Settings};
-use sheet::Places;
+use sheet::{Marks, Places, VerticesMut};
+use source::{Rows, Vertices};
 
 // The record of an open job, which holds nothing that grows: what was asked for, how far the job is, and
 // what is held of its vertices. It is all numbers, for callers in C.
@@ -241,51 +240,34 @@ pub struct Taken {
     pub places: Places,
 }
 
-// Stores a stroke, if it is drawn. In rows there are no other lists.
-fn store_stroke(
-    vertices: &mut [f64],
-    flags: &mut [u8],
-    indexes: &mut [u32],
-    origins: &mut [u32],
+// Stores a stroke, if it is drawn.
+fn store_stroke<V: VerticesMut>(
+    vertices: &mut V,
+    marks: &mut Marks,
     places: Places,
     stepped: Stepped,
 ) -> Places
-    requires { Rooms (length (drawn_by 0 stepped)) (laid places (rows_held vertices.old flags.old indexes.old origins.old)) × Coded stepped.stroke.origin }
-    ensures { laid result (rows_held vertices.new flags.new indexes.new origins.new)
-        ≡ stores (drawn_by 0 stepped) (laid places (rows_held vertices.old flags.old indexes.old origins.old)) }
+    requires { Rooms (length (drawn_by 0 stepped)) (laid places (held (V.lent vertices.old) marks.old)) × Coded stepped.stroke.origin }
+    ensures { laid result (held (V.lent vertices.new) marks.new)
+        ≡ stores (drawn_by 0 stepped) (laid places (held (V.lent vertices.old) marks.old)) }
 {
-    let mut noys = [0.0; 0];
-    let mut nobulges = [0.0; 0];
-    sheet::store(
-        false,
-        vertices,
-        &mut noys,
-        &mut nobulges,
-        flags,
-        indexes,
-        origins,
-        places,
-        stepped.kept,
-        stepped.stroke,
-    )
+    sheet::store(vertices, marks, places, stepped.kept, stepped.stroke)
 }
 
 // The strokes of a vertex.
-fn store_turning(
-    vertices: &mut [f64],
-    flags: &mut [u8],
-    indexes: &mut [u32],
-    origins: &mut [u32],
+fn store_turning<V: VerticesMut>(
+    vertices: &mut V,
+    marks: &mut Marks,
     places: Places,
     turning: Turning,
 ) -> Places
-    requires { Rooms (length (strokes_in turning)) (laid places (rows_held vertices.old flags.old indexes.old origins.old)) × CodedAll turning }
-    ensures { laid result (rows_held vertices.new flags.new indexes.new origins.new)
-        ≡ stores (strokes_in turning) (laid places (rows_held vertices.old flags.old indexes.old origins.old)) }
+    requires { Rooms (length (strokes_in turning)) (laid places (held (V.lent vertices.old) marks.old)) × CodedAll turning }
+    ensures { laid result (held (V.lent vertices.new) marks.new)
+        ≡ stores (strokes_in turning) (laid places (held (V.lent vertices.old) marks.old)) }
 {
-    let first = store_stroke(vertices, flags, indexes, origins, places, turning.span);
-    let second = store_stroke(vertices, flags, indexes, origins, first, turning.tip);
-    store_stroke(vertices, flags, indexes, origins, second, turning.connector)
+    let first = store_stroke(vertices, marks, places, turning.span);
+    let second = store_stroke(vertices, marks, first, turning.tip);
+    store_stroke(vertices, marks, second, turning.connector)
 }
 
 // An offset of zero copies: nothing is worked out that could be no number.
@@ -299,19 +281,17 @@ fn is_endless(turning: Turning, offset: f64) -> bool
 }
 
 // One vertex more, unless one is refused already. It is drawn before the next is looked at.
-fn take_vertex(
-    vertices: &mut [f64],
-    flags: &mut [u8],
-    indexes: &mut [u32],
-    origins: &mut [u32],
+fn take_vertex<V: VerticesMut>(
+    vertices: &mut V,
+    marks: &mut Marks,
     taken: Taken,
     c: PlineVertex,
     settings: Settings,
     pointed: bool,
 ) -> Taken
-    requires { Ready 1 (went taken (rows_held vertices.old flags.old indexes.old origins.old)) settings pointed }
-    ensures { went result (rows_held vertices.new flags.new indexes.new origins.new)
-        ≡ went_one settings c (went taken (rows_held vertices.old flags.old indexes.old origins.old)) }
+    requires { Ready 1 (went taken (held (V.lent vertices.old) marks.old)) settings pointed }
+    ensures { went result (held (V.lent vertices.new) marks.new)
+        ≡ went_one settings c (went taken (held (V.lent vertices.old) marks.old)) }
 {
     if taken.refusal != 0 {
         return taken;
@@ -333,7 +313,7 @@ fn take_vertex(
             places,
         };
     }
-    let places = store_turning(vertices, flags, indexes, origins, places, turning);
+    let places = store_turning(vertices, marks, places, turning);
     let course = turning.course;
     Taken {
         course,
@@ -342,28 +322,23 @@ fn take_vertex(
     }
 }
 
-// The v vertices of a list, one after the other.
-fn take_vertices(
-    source: &[f64],
-    v: usize,
-    vertices: &mut [f64],
-    flags: &mut [u8],
-    indexes: &mut [u32],
-    origins: &mut [u32],
+// The vertices of a list, one after the other.
+fn take_vertices<V: VerticesMut>(
+    source: Rows,
+    vertices: &mut V,
+    marks: &mut Marks,
     first: Taken,
     settings: Settings,
     pointed: bool,
 ) -> Taken
-    requires { (v ≡ length (vertices_of source.now)) × Ready v (went first (rows_held vertices.old flags.old indexes.old origins.old)) settings pointed }
-    ensures { went result (rows_held vertices.new flags.new indexes.new origins.new)
-        ≡ went_all settings (vertices_of source.now) (went first (rows_held vertices.old flags.old indexes.old origins.old)) }
+    requires { Ready (length (vertices_of source.0.now)) (went first (held (V.lent vertices.old) marks.old)) settings pointed }
+    ensures { went result (held (V.lent vertices.new) marks.new)
+        ≡ went_all settings (vertices_of source.entry.0.now) (went first (held (V.lent vertices.old) marks.old)) }
 {
     let mut taken = first;
-    for k in 0..v {
-        let c = source::vertex_at(source, k);
-        taken = take_vertex(
-            vertices, flags, indexes, origins, taken, c, settings, pointed,
-        );
+    for k in 0..source.count() {
+        let c = source.vertex(k);
+        taken = take_vertex(vertices, marks, taken, c, settings, pointed);
     }
     taken
 }
@@ -421,70 +396,62 @@ impl OpenJob {
     }
 }
 
+// Whether so many vertices, flags, indexes and origins fit.
+fn has_room<V: VerticesMut>(room: usize, vertices: &V, marks: &Marks) -> bool
+    ensures { result ≡ (leb room (length (held_by (V.lent vertices.now)).made) and (leb room (length marks.now.flags.now) and (leb room (length marks.now.indexes.now) and leb room (length marks.now.origins.now)))) }
+{
+    job::has_room(
+        room,
+        vertices.count(),
+        marks.flags.len(),
+        marks.indexes.len(),
+        marks.origins.len(),
+    )
+}
+
 // Takes the vertices of a list, three numbers each, and hands out what they make certain.
-pub fn draw(
+pub fn draw<V: VerticesMut>(
     job: OpenJob,
     source: &[f64],
-    vertices: &mut [f64],
-    flags: &mut [u8],
-    indexes: &mut [u32],
-    origins: &mut [u32],
+    vertices: &mut V,
+    marks: &mut Marks,
 ) -> Called
-    ensures { called result.answer result.job (buffers (rows vertices.new) flags.new indexes.new (origins_in origins.new))
-        ≡ draw_call job source.now (buffers (rows vertices.old) flags.old indexes.old (origins_in origins.old)) }
+    ensures called { called result.answer result.job (lent (V.lent vertices.new) marks.new)
+        ≡ draw_call job source.now (lent (V.lent vertices.old) marks.old) }
+    ensures same_loans { SameLoans (V.lent vertices.old) marks.old (V.lent vertices.new) marks.new }
 {
     if !job.is_open() {
         return job.shut();
     }
-    if !source::is_whole(false, source.len(), 0, 0) {
+    let source = Rows(source);
+    if !source.is_whole() {
         return job.unchanged(Refusal::Ragged);
     }
-    let v = source.len() / 3;
     let pointed = job.is_pointed();
-    let room = job::moves_a_segment(pointed) * v;
-    if !job::has_room(
-        room,
-        vertices.len() / 3,
-        flags.len(),
-        indexes.len(),
-        origins.len(),
-    ) {
+    let room = job::moves_a_segment(pointed) * source.count();
+    if !has_room(room, vertices, marks) {
         return job.unchanged(Refusal::NoRoom);
     }
     let first = Taken::none(job.course);
     let settings = job.settings();
-    let taken = take_vertices(
-        source, v, vertices, flags, indexes, origins, first, settings, pointed,
-    );
+    let taken = take_vertices(source, vertices, marks, first, settings, pointed);
     job.after(taken)
 }
 
-// A vertex at place k, in rows.
-fn put_last(vertices: &mut [f64], k: usize, v: PlineVertex)
-    requires { k < length (held_by false vertices.old [] []).made }
-    ensures { held_by false vertices.new [] [] ≡ put_at (held_by false vertices.old [] []) k v }
-{
-    let mut noys = [0.0; 0];
-    let mut nobulges = [0.0; 0];
-    sheet::put_vertex(false, vertices, &mut noys, &mut nobulges, k, v);
-}
-
 // The last span, and the last vertex.
-fn store_ending(
-    vertices: &mut [f64],
-    flags: &mut [u8],
-    indexes: &mut [u32],
-    origins: &mut [u32],
+fn store_ending<V: VerticesMut>(
+    vertices: &mut V,
+    marks: &mut Marks,
     first: Places,
     ending: Ending,
 ) -> Places
-    requires { (first ≡ no_places) × Rooms 2 (laid first (rows_held vertices.old flags.old indexes.old origins.old)) × Coded ending.span.stroke.origin }
-    ensures { (rows_held vertices.new flags.new indexes.new origins.new
-        ≡ written (ending_piece ending) (rows_held vertices.old flags.old indexes.old origins.old)) × (end_counts result ending ≡ answering 0 0 (ending_piece ending)) × (result.strokes ≤ 1) × (result.marks ≤ 1) }
+    requires { (first ≡ no_places) × Rooms 2 (laid first (held (V.lent vertices.old) marks.old)) × Coded ending.span.stroke.origin }
+    ensures { (held (V.lent vertices.new) marks.new
+        ≡ written (ending_piece ending) (held (V.lent vertices.old) marks.old)) × (end_counts result ending ≡ answering 0 0 (ending_piece ending)) × (result.strokes ≤ 1) × (result.marks ≤ 1) }
 {
-    let places = store_stroke(vertices, flags, indexes, origins, first, ending.span);
+    let places = store_stroke(vertices, marks, first, ending.span);
     if let Some(vertex) = ending.last {
-        put_last(vertices, places.strokes, vertex);
+        vertices.put(places.strokes, vertex);
     }
     places
 }
@@ -514,26 +481,15 @@ fn is_endless_end(ending: Ending, offset: f64) -> bool
 }
 
 // Ends the job, and hands out the rest.
-pub fn end(
-    job: OpenJob,
-    vertices: &mut [f64],
-    flags: &mut [u8],
-    indexes: &mut [u32],
-    origins: &mut [u32],
-) -> Called
-    ensures { called result.answer result.job (buffers (rows vertices.new) flags.new indexes.new (origins_in origins.new))
-        ≡ end_call job (buffers (rows vertices.old) flags.old indexes.old (origins_in origins.old)) }
+pub fn end<V: VerticesMut>(job: OpenJob, vertices: &mut V, marks: &mut Marks) -> Called
+    ensures called { called result.answer result.job (lent (V.lent vertices.new) marks.new)
+        ≡ end_call job (lent (V.lent vertices.old) marks.old) }
+    ensures same_loans { SameLoans (V.lent vertices.old) marks.old (V.lent vertices.new) marks.new }
 {
     if !job.is_open() {
         return job.shut();
     }
-    if !job::has_room(
-        2,
-        vertices.len() / 3,
-        flags.len(),
-        indexes.len(),
-        origins.len(),
-    ) {
+    if !has_room(2, vertices, marks) {
         return job.unchanged(Refusal::NoRoom);
     }
     let course = job.course;
@@ -546,14 +502,7 @@ pub fn end(
             job: job.staged(REFUSED, number, course.taken, course),
         };
     }
-    let places = store_ending(
-        vertices,
-        flags,
-        indexes,
-        origins,
-        Taken::none(course).places,
-        ending,
-    );
+    let places = store_ending(vertices, marks, Taken::none(course).places, ending);
     Called {
         answer: ending_answer(places, ending),
         job: job.staged(ENDED, 0, 0, course),
