@@ -1,11 +1,14 @@
 -- `lines` meets its contract. Assumes nothing.
-use mathlib.Core.Path.{◌≡◌}
-use Prim.Native.Nat.{◌*◌, ◌<◌}
+use mathlib.Core.Bool.{not}
+use mathlib.Core.Path.{◌≡◌, ◌∙◌}
+use Prim.Native.Nat.{◌+◌, ◌*◌, ◌<◌}
 use native.Mathlib.Numerals.{add-one}
 use native.Mathlib.Omega.{arith}
 use lib.ListN.{get_or, length-take, take}
 use Rattle.std.proofs.lemmas.List.{get_or-take}
-use Rattle.packed.specs.Text.{line_at, lines_of}
+use lib.Dec.{eqb}
+use Rattle.floats.specs.Choice.{◌and◌}
+use Rattle.packed.specs.Text.{line_at, lines_of, mark_of}
 use Rattle.packed.proofs.Lines.{length-lines}
 use Rattle.packed.proofs.Writing.{room_left, writes_more, writes_none}
 use Rattle.packed.proofs.text.Text.lines.Goals as goal
@@ -28,7 +31,10 @@ loop-i-preserved c =
     let i = c.loop-i.i in
     let h : i < a.count = omega (arith, length-take a.count a.flags.now) in
     let f : get_or (take a.count a.flags.now) i 0 ≡ get_or a.flags.now i 0 = rw get_or-take in
-    rw add-one (writes_more c.loop-i.invariant (rw (← f, ← c.is_last.ensures, ← c.mark_of.ensures) c.line.ensures))
+    let marks : mark_of c.is_last.result (get_or (take a.count a.flags.now) i 0) ≡ mark_of (not a.closed and eqb (i + 1) a.count) (get_or a.flags.now i 0) =
+    rw (c.is_last.ensures, f) in
+    let m = c.mark_of.ensures ∙ marks in
+    rw add-one (writes_more c.loop-i.invariant (rw (← m) c.line.ensures))
 
 pub returns : goal.returns
 returns c =

@@ -1,11 +1,11 @@
 -- `origin_lines` meets its contract. Assumes nothing.
-use mathlib.Core.Path.{◌≡◌}
+use mathlib.Core.Path.{◌≡◌, ap, ◌∙◌}
 use Prim.Native.Nat.{◌*◌, ◌<◌, ◌≤◌}
 use native.Mathlib.Numerals.{add-one}
 use native.Mathlib.Omega.{arith}
 use lib.ListN.{get_or, length, length-take, take}
 use Rattle.std.proofs.lemmas.List.{get_or-take}
-use Rattle.moves.specs.Origins.{origins_in}
+use Rattle.moves.specs.Origins.{origin_of, origins_in}
 use Rattle.packed.specs.Text.{origin_lines}
 use Rattle.packed.proofs.Lines.{most_origins, origin-lines-next}
 use Rattle.packed.proofs.Writing.{room_left, writes_more, writes_none}
@@ -30,7 +30,8 @@ loop-code-preserved c =
     let k = c.loop-code.code-index in
     let h : k < a.count = omega (arith, length-take a.count a.origins.now) in
     let f : get_or (take a.count a.origins.now) k 0 ≡ get_or a.origins.now k 0 = rw get_or-take in
-    rw (add-one, origin-lines-next a.origins.now k (omega arith), ← f, ← c.of_code.ensures) (writes_more c.loop-code.invariant c.origin.ensures)
+    let o = c.of_code.ensures ∙ ap origin_of f in
+    rw (add-one, origin-lines-next a.origins.now k (omega arith), ← o) (writes_more c.loop-code.invariant c.origin.ensures)
 
 pub returns : goal.returns
 returns c =
