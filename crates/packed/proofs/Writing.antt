@@ -4,8 +4,8 @@ use mathlib.Core.List.{List, [], ◌∷◌, ◌++◌}
 use Prim.Native.Nat.{ℕ, suc, ◌+◌, ◌≤◌}
 use native.Mathlib.Nat.{add-zero, zero-add}
 use native.Mathlib.Omega.{arith}
-use lib.ListN.{length, set, drop, length-append}
-use lib.Seq.{sets, sets-eq, length-sets, length-take-le}
+use lib.ListN.{length, set, take, drop, length-append}
+use lib.Seq.{sets, sets-eq, length-sets, length-take-le, take_at}
 use Rattle.io.specs.Counts.{IsPrefixLen}
 use Rattle.packed.specs.declared.text.Text.{Text}
 use Rattle.packed.specs.Writes.{HasRoom, Writes}
@@ -49,3 +49,9 @@ module _ {xs : List ℕ} {a b : Text} (w : Writes xs a b) where
       let m : n ≡ length xs = omega (arith, w.at) in
       let h : n ≤ length b.out.now = omega (arith, w.within, same_length) in
       ((h, sym (length-take-le n b.out.now h)), (m, rw (w.bytes, z, e, m) (sets_front l₀ xs (omega (arith, w.within, ap length e)))))
+
+  -- such a text is what stands there
+  pub start : {n : ℕ} → a.at ≡ 0 → n ≡ b.at → take n b.out.now ≡ xs
+  start z k =
+      let t = whole z refl k in
+      rw t.1.1 (take_at xs _ _ (sym t.1.0))
