@@ -9,7 +9,7 @@
 use job::RawOffsetAnswer;
 use moves::RawOffsetResult;
 use segments::{Corners, Settings};
-use words::{least, print, print_word, read_number, read_word};
+use words::{print, print_word, read_number, read_word};
 
 // What stands in each buffer before a job.
 const NUMBER_BEFORE: f64 = -7.25;
@@ -49,11 +49,11 @@ fn mixed(sum: u64, word: u64) -> u64 {
     std::num::wrapping_add_u64(std::num::wrapping_add_u64(turned, sum), word)
 }
 
-// The first places as they stand, and a checksum of all; so for flags, and for indexes and origins.
+// The first places as they stand, and a checksum of all.
 fn print_numbers(numbers: &[f64], shown: usize) {
     let mut sum = 0;
-    for i in 0..numbers.len() {
-        let word = bits::bits_of(numbers[i]);
+    for (i, &number) in numbers.iter().enumerate() {
+        let word = bits::bits_of(number);
         if i < shown {
             print_word(word);
         }
@@ -62,30 +62,11 @@ fn print_numbers(numbers: &[f64], shown: usize) {
     print_sum(sum);
 }
 
-fn of_flag(flag: u8) -> u64 {
-    flag as u64
-}
-
-fn print_flags(flags: &[u8], shown: usize) {
+// The same of flags, and of indexes and origins.
+fn print_counts<T: Copy + Into<u64>>(counts: &[T], shown: usize) {
     let mut sum = 0;
-    for i in 0..flags.len() {
-        let word = of_flag(flags[i]);
-        if i < shown {
-            print_count(word);
-        }
-        sum = mixed(sum, word);
-    }
-    print_sum(sum);
-}
-
-fn of_count(count: u32) -> u64 {
-    count as u64
-}
-
-fn print_counts(counts: &[u32], shown: usize) {
-    let mut sum = 0;
-    for i in 0..counts.len() {
-        let word = of_count(counts[i]);
+    for (i, &count) in counts.iter().enumerate() {
+        let word = count.into();
         if i < shown {
             print_count(word);
         }
@@ -134,7 +115,7 @@ fn print_outcome(
     let drawn = shown(answer);
     print_answer(answer);
     print_numbers(vertices, 3 * (drawn.vertices as usize));
-    print_flags(flags, segments_drawn(drawn) as usize);
+    print_counts(flags, segments_drawn(drawn) as usize);
     print_counts(indexes, drawn.indexes as usize);
     print_counts(origins, segments_drawn(drawn) as usize);
     print(b"\n");
@@ -187,11 +168,11 @@ fn job(
     indexes: &mut [u32],
     origins: &mut [u32],
 ) {
-    let count = least(lent.source, source.len());
-    let numbers_lent = least(lent.numbers, vertices.len());
-    let flags_lent = least(lent.flags, flags.len());
-    let indexes_lent = least(lent.indexes, indexes.len());
-    let origins_lent = least(lent.origins, origins.len());
+    let count = lent.source.min(source.len());
+    let numbers_lent = lent.numbers.min(vertices.len());
+    let flags_lent = lent.flags.min(flags.len());
+    let indexes_lent = lent.indexes.min(indexes.len());
+    let origins_lent = lent.origins.min(origins.len());
     let answer = offset(
         &source[..count],
         closed,
@@ -249,11 +230,9 @@ fn row() {
 fn zigzag(source: &mut [f64]) {
     let mut x = 0.0;
     let mut y = 0.0;
-    for i in 0..source.len() / 3 {
-        source[3 * i] = x;
-        source[3 * i + 1] = y;
-        source[3 * i + 2] = 0.25 * y;
-        x = x + 1.0;
+    for vertex in source.chunks_exact_mut(3) {
+        vertex.copy_from_slice(&[x, y, 0.25 * y]);
+        x += 1.0;
         y = 1.0 - y;
     }
 }
