@@ -2,10 +2,12 @@
 ghost use Rattle.std.specs.Prelude.{◌≡◌, [], ◌∷◌, ◌++◌, not, ◌+◌, ◌*◌, ◌≤◌, eqb, length, take};
 ghost use Rattle.floats.specs.Choice.{◌and◌};
 ghost use Rattle.moves.specs.Origins.{origins_in};
+ghost use Rattle.refusals.specs.Table.{number_of, place_of};
 ghost use Rattle.packed.specs.Text.{◌then◌, decimal_of, hex_of, line_end, row_of, mark_of, lines_of, word_of, head_of, refusal_of, printed, printed_of, origin_line, origin_lines, origins_text, three_of, pair_of};
 ghost use Rattle.packed.specs.Writes.{HasRoom, Writes};
 
 use moves::Origin;
+use refusals::Refusal;
 use segments::PlineVertex;
 
 // A buffer, and the place in it where the text goes on. What is written ends with the byte that is told beside it.
@@ -67,6 +69,14 @@ impl<'a> Text<'a> {
     {
         self.decimal(number as u64, b' ');
         self.decimal(place as u64, b'\n');
+    }
+
+    // That of a refusal of the table.
+    pub fn refuse(&mut self, refusal: Refusal)
+        requires { HasRoom 42 self.old }
+        ensures { Writes (refusal_of (number_of refusal) (place_of refusal)) self.old self.new }
+    {
+        self.refusal(refusal.number(), refusal.place());
     }
 
     // Three numbers, a space after each.

@@ -69,8 +69,7 @@ fn reply_by(asked: Asked, form: Form, bytes: &[u8], text: &mut Text)
 {
     let mut source = [0.0; 1536];
     let Some(job) = packed::decode(form, bytes, &mut source) else {
-        let refusal = Refusal::Malformed;
-        return text.refusal(refusal.number(), refusal.place());
+        return text.refuse(Refusal::Malformed);
     };
     let numbers = &source[..3 * job.vertices];
     work(asked, numbers, job.closed, job.settings, text);

@@ -10,9 +10,7 @@ mod text;
 
 ghost use Rattle.std.specs.Prelude.{◌≡◌, ◌++◌, ◌*◌, ◌≤◌, IfSome, is_some, length, drop, replicate};
 ghost use Rattle.io.specs.Counts.{IsPrefixLen};
-ghost use Rattle.refusals.specs.declared.Refusal.TheVariants.{Malformed};
-ghost use Rattle.refusals.specs.Table.{number_of, place_of};
-ghost use Rattle.packed.specs.Text.{refusal_of, text_of};
+ghost use Rattle.packed.specs.Text.{text_of};
 ghost use Rattle.packed.specs.Writes.{HasRoom, Writes};
 ghost use Rattle.compare.specs.Compare.{output, compare_of};
 ghost use Rattle.same_reply.specs.Read.{count_of, read_of, same, is_text};
@@ -41,7 +39,8 @@ struct Found {
     closed: bool,
 }
 
-// The answer to the texts of two outputs, at the start of `text`. Answers its length.
+// The answer to the texts of two outputs, at the start of `text`; where one is no output's, they are refused. Answers
+// its length.
 pub fn reply(bytes: &[u8], text: &mut [u8; 524288]) -> usize
     ensures prefix_len { IsPrefixLen result text.new }
     ensures value { result ≡ length (same_reply_of bytes.now) }
@@ -58,11 +57,11 @@ fn put_reply(bytes: &[u8], text: &mut Text)
 {
     let all = bytes.len();
     if all < LENGTH_BYTES {
-        return malformed(text);
+        return text.refuse(Refusal::Malformed);
     }
     let n = words::big_endian(bytes, 0, LENGTH_BYTES) as usize;
     if n > all - LENGTH_BYTES {
-        return malformed(text);
+        return text.refuse(Refusal::Malformed);
     }
     let end = LENGTH_BYTES + n;
     pair(&bytes[LENGTH_BYTES..end], &bytes[end..], text);
@@ -76,7 +75,7 @@ fn pair(a: &[u8], b: &[u8], text: &mut Text)
     let mut numbers = [0.0; NUMBERS];
     let mut flags = [0u8; VERTICES];
     let Some(found) = read_text(a, &mut numbers, &mut flags) else {
-        return malformed(text);
+        return text.refuse(Refusal::Malformed);
     };
     let count = found.count;
     let closed = found.closed;
@@ -92,7 +91,7 @@ fn with_first(a: &[f64], a_closed: bool, a_flags: &[u8], b: &[u8], text: &mut Te
     let mut numbers = [0.0; NUMBERS];
     let mut flags = [0u8; VERTICES];
     let Some(found) = read_text(b, &mut numbers, &mut flags) else {
-        return malformed(text);
+        return text.refuse(Refusal::Malformed);
     };
     let count = found.count;
     let closed = found.closed;
@@ -199,13 +198,4 @@ fn put_compared(
         &mut fields,
     );
     text::put_differences(answer.differences(), &numbers, &fields, text);
-}
-
-// What is told of bytes that are not the texts of two outputs.
-fn malformed(text: &mut Text)
-    requires { HasRoom 42 text.old }
-    ensures { Writes (refusal_of (number_of Malformed) (place_of Malformed)) text.old text.new }
-{
-    let refusal = Refusal::Malformed;
-    text.refusal(refusal.number(), refusal.place());
 }

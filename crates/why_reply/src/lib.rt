@@ -5,9 +5,7 @@
 ghost use Rattle.std.specs.Prelude.{◌≡◌, ◌++◌, ◌≤◌, length, drop};
 ghost use Rattle.io.specs.Counts.{IsPrefixLen};
 ghost use Rattle.words.specs.Words.{big_endian};
-ghost use Rattle.refusals.specs.declared.Refusal.TheVariants.{Malformed};
-ghost use Rattle.refusals.specs.Table.{number_of, place_of};
-ghost use Rattle.packed.specs.Text.{refusal_of, told_of};
+ghost use Rattle.packed.specs.Text.{told_of};
 ghost use Rattle.packed.specs.Writes.{HasRoom, Writes};
 ghost use Rattle.source.specs.Source.{rows};
 ghost use Rattle.why.specs.Why.{why_of, numbers_of};
@@ -18,7 +16,7 @@ use refusals::Refusal;
 use segments::{OutputSegment, Settings};
 use why::WhyNumbers;
 
-// The answer to a question, at the start of `text`. Answers its length.
+// The answer to a question, at the start of `text`; what is no packed job is refused. Answers its length.
 pub fn reply(bytes: &[u8], text: &mut [u8; 98304]) -> usize
     ensures prefix_len { IsPrefixLen result text.new }
     ensures value { result ≡ length (why_reply_of bytes.now) }
@@ -34,7 +32,7 @@ fn put_reply(bytes: &[u8], text: &mut Text)
     ensures { Writes (why_reply_of bytes.now) text.old text.new }
 {
     if bytes.len() < 4 {
-        put_malformed(text);
+        text.refuse(Refusal::Malformed);
     } else {
         let segment = segment_of(bytes);
         put_reply_about(&bytes[4..], segment, text);
@@ -49,15 +47,6 @@ fn segment_of(bytes: &[u8]) -> OutputSegment
     OutputSegment(words::big_endian(bytes, 0, 4) as u32)
 }
 
-// What is no packed job is refused.
-fn put_malformed(text: &mut Text)
-    requires { HasRoom 42 text.old }
-    ensures { Writes (refusal_of (number_of Malformed) (place_of Malformed)) text.old text.new }
-{
-    let refusal = Refusal::Malformed;
-    text.refusal(refusal.number(), refusal.place());
-}
-
 // The answer about one output segment of a packed job.
 fn put_reply_about(job: &[u8], segment: OutputSegment, text: &mut Text)
     requires { HasRoom 181 text.old }
@@ -65,7 +54,7 @@ fn put_reply_about(job: &[u8], segment: OutputSegment, text: &mut Text)
 {
     let mut source = [0.0; 1536];
     let Some(job) = packed::decode(Form::Either, job, &mut source) else {
-        return put_malformed(text);
+        return text.refuse(Refusal::Malformed);
     };
     let numbers = &source[..3 * job.vertices];
     tell(numbers, job.closed, job.settings, segment, text);

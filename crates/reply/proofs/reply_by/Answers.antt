@@ -8,8 +8,7 @@ use Rattle.reply.proofs.Decodings.{refused, worked}
 use Rattle.reply.proofs.reply_by.Goals as goal
 
 pub returns-in_default : goal.returns-in_default
-returns-in_default c =
-    rw (refused c.args.asked _ _ _ c.decode.ensures c.in_default.is) (rw (c.number.ensures, c.place.ensures) at c.refusal.ensures)
+returns-in_default c = rw (refused c.args.asked _ _ _ c.decode.ensures c.in_default.is) c.refuse.ensures
 
 pub overflow_mul-source : goal.overflow_mul-source
 overflow_mul-source c = omega (arith, decoded-room _ _ _ c.decode.ensures c.in-Some.is)

@@ -4,7 +4,7 @@ use Rattle.same_reply.proofs.Pairs.{first_fails, first_read}
 use Rattle.same_reply.proofs.pair.Goals as goal
 
 pub returns-in_default : goal.returns-in_default
-returns-in_default c = rw (← first_fails c.args.a.now c.args.b.now (sym c.in_default.ensures.found)) c.malformed.ensures
+returns-in_default c = rw (← first_fails c.args.a.now c.args.b.now (sym c.in_default.ensures.found)) c.refuse.ensures
 
 pub returns : goal.returns
 returns c =

@@ -7,7 +7,7 @@ use Rattle.same_reply.proofs.with_first.Goals as goal
 pub returns-in_default : goal.returns-in_default
 returns-in_default c =
     let a = c.args in
-    rw (← against_fails (output a.a.now a.a_closed a.a_flags.now) a.b.now (sym c.in_default.ensures.found)) c.malformed.ensures
+    rw (← against_fails (output a.a.now a.a_closed a.a_flags.now) a.b.now (sym c.in_default.ensures.found)) c.refuse.ensures
 
 pub returns : goal.returns
 returns c =

@@ -16,7 +16,7 @@ pub slice_bounds-numbers-end : goal.slice_bounds-numbers-end
 slice_bounds-numbers-end c = sym (length-take-le _ _ (omega (arith, decoded-room _ _ _ c.decode.ensures c.in-Some.is)))
 
 pub returns-in_default : goal.returns-in_default
-returns-in_default c = rw (refused _ _ c.decode.ensures _ c.in_default.is) c.put_malformed.ensures
+returns-in_default c = rw (refused _ _ c.decode.ensures _ c.in_default.is) c.refuse.ensures
 
 pub returns : goal.returns
 returns c = rw (worked _ _ c.decode.ensures _ c.in-Some.is) c.tell.ensures
