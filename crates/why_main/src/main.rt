@@ -42,7 +42,7 @@ fn tell_each(source: &[f64], closed: bool, settings: Settings) {
 }
 
 fn tell_job(source: &[f64], count: usize, closed: bool, settings: Settings) {
-    let numbers = words::least(count, source.len());
+    let numbers = count.min(source.len());
     tell_each(&source[..numbers], closed, settings);
     let _told = tell(&source[..numbers], closed, settings, u32::MAX);
 }
