@@ -196,10 +196,8 @@ fn further(x: f64, units: u64) -> f64 {
 
 // About the square of a guess: at it, at each number next to it, and some hundred units and some
 // parts of it away; and one of the two far from it.
-fn near_guess(i: usize)
-    requires { i < 16 }
-{
-    let g = bits::number_of(GUESSES[i]);
+fn near_guess(guess: u64) {
+    let g = bits::number_of(guess);
     let square = g * g;
     near(square, square, g);
     near(
@@ -241,8 +239,8 @@ fn near_edge(i: usize)
 }
 
 fn near_guesses() {
-    for i in 0..16 {
-        near_guess(i);
+    for &guess in &GUESSES {
+        near_guess(guess);
     }
 }
 

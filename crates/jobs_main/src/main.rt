@@ -9,7 +9,7 @@
 use job::RawOffsetAnswer;
 use moves::RawOffsetResult;
 use segments::{Corners, Settings};
-use words::{least, print, print_word, read_number, read_word};
+use words::{print, print_word, read_word};
 
 // What stands in each buffer before a job.
 const NUMBER_BEFORE: f64 = -7.25;
@@ -49,45 +49,21 @@ fn mixed(sum: u64, word: u64) -> u64 {
     std::num::wrapping_add_u64(std::num::wrapping_add_u64(turned, sum), word)
 }
 
-// The first places as they stand, and a checksum of all; so for flags, and for indexes and origins.
-fn print_numbers(numbers: &[f64], shown: usize) {
+// The first places as they stand, each as a word, and a checksum of all.
+fn print_places<T: Copy, W: Fn(T) -> u64 + Drop, P: Fn(u64) + Drop>(
+    places: &[T],
+    shown: usize,
+    word_of: W,
+    print_one: P,
+)
+    requires word { W.IsAlwaysCallable word_of }
+    requires one { P.IsAlwaysCallable print_one }
+{
     let mut sum = 0;
-    for i in 0..numbers.len() {
-        let word = bits::bits_of(numbers[i]);
+    for (i, &place) in places.iter().enumerate() {
+        let word = word_of(place);
         if i < shown {
-            print_word(word);
-        }
-        sum = mixed(sum, word);
-    }
-    print_sum(sum);
-}
-
-fn of_flag(flag: u8) -> u64 {
-    flag as u64
-}
-
-fn print_flags(flags: &[u8], shown: usize) {
-    let mut sum = 0;
-    for i in 0..flags.len() {
-        let word = of_flag(flags[i]);
-        if i < shown {
-            print_count(word);
-        }
-        sum = mixed(sum, word);
-    }
-    print_sum(sum);
-}
-
-fn of_count(count: u32) -> u64 {
-    count as u64
-}
-
-fn print_counts(counts: &[u32], shown: usize) {
-    let mut sum = 0;
-    for i in 0..counts.len() {
-        let word = of_count(counts[i]);
-        if i < shown {
-            print_count(word);
+            print_one(word);
         }
         sum = mixed(sum, word);
     }
@@ -133,10 +109,17 @@ fn print_outcome(
 ) {
     let drawn = shown(answer);
     print_answer(answer);
-    print_numbers(vertices, 3 * (drawn.vertices as usize));
-    print_flags(flags, segments_drawn(drawn) as usize);
-    print_counts(indexes, drawn.indexes as usize);
-    print_counts(origins, segments_drawn(drawn) as usize);
+    let numbers = 3 * (drawn.vertices as usize);
+    let segments = segments_drawn(drawn) as usize;
+    print_places(vertices, numbers, bits::bits_of, print_word);
+    print_places(flags, segments, |flag: u8| flag as u64, print_count);
+    print_places(
+        indexes,
+        drawn.indexes as usize,
+        |index: u32| index as u64,
+        print_count,
+    );
+    print_places(origins, segments, |origin: u32| origin as u64, print_count);
     print(b"\n");
 }
 
@@ -187,11 +170,11 @@ fn job(
     indexes: &mut [u32],
     origins: &mut [u32],
 ) {
-    let count = least(lent.source, source.len());
-    let numbers_lent = least(lent.numbers, vertices.len());
-    let flags_lent = least(lent.flags, flags.len());
-    let indexes_lent = least(lent.indexes, indexes.len());
-    let origins_lent = least(lent.origins, origins.len());
+    let count = lent.source.min(source.len());
+    let numbers_lent = lent.numbers.min(vertices.len());
+    let flags_lent = lent.flags.min(flags.len());
+    let indexes_lent = lent.indexes.min(indexes.len());
+    let origins_lent = lent.origins.min(origins.len());
     let answer = offset(
         &source[..count],
         closed,
@@ -204,16 +187,6 @@ fn job(
     print_outcome(answer, vertices, flags, indexes, origins);
 }
 
-// Of pointed corners the ratio is read too.
-fn read_settings(pointed: bool) -> Settings {
-    let offset = read_number();
-    let eps = read_number();
-    if pointed {
-        return Settings::pointed(offset, eps, read_number());
-    }
-    Settings::round(offset, eps)
-}
-
 // A stored row: at most 42 vertices.
 fn row() {
     let mut source = [0.0; 128];
@@ -221,23 +194,20 @@ fn row() {
     let mut flags = [FLAG_BEFORE; 88];
     let mut indexes = [INDEX_BEFORE; 88];
     let mut origins = [ORIGIN_BEFORE; 88];
-    let count = read_word() as usize;
-    let mode = read_word();
-    let closed = mode % 2 == 1;
-    let settings = read_settings(mode > 1);
+    let head = stored::read_head();
     let lent = Lent {
-        source: count,
+        source: head.numbers,
         numbers: read_word() as usize,
         flags: read_word() as usize,
         indexes: read_word() as usize,
         origins: read_word() as usize,
     };
-    words::read_numbers(count, &mut source);
+    words::read_numbers(head.numbers, &mut source);
     job(
         lent,
         &source,
-        closed,
-        settings,
+        head.closed,
+        head.settings,
         &mut vertices,
         &mut flags,
         &mut indexes,
@@ -249,11 +219,9 @@ fn row() {
 fn zigzag(source: &mut [f64]) {
     let mut x = 0.0;
     let mut y = 0.0;
-    for i in 0..source.len() / 3 {
-        source[3 * i] = x;
-        source[3 * i + 1] = y;
-        source[3 * i + 2] = 0.25 * y;
-        x = x + 1.0;
+    for vertex in source.chunks_exact_mut(3) {
+        vertex.copy_from_slice(&[x, y, 0.25 * y]);
+        x += 1.0;
         y = 1.0 - y;
     }
 }

@@ -1,6 +1,7 @@
 -- The numbers of a packed job, and what a well formed one has. Assumes nothing.
 use mathlib.Core.Path.{◌≡◌, refl, sym, ap, ◌∙◌}
 use mathlib.Core.Bool.{Bool, true, false, not}
+use Rattle.std.specs.Prelude.{Option, Some, None}
 use mathlib.Core.List.{List, ◌++◌}
 use Prim.Native.Nat.{ℕ, zero, suc, ◌+◌, ◌-◌, ◌*◌, ◌%◌, ◌<◌, ◌≤◌}
 use native.Mathlib.Omega.{arith}
@@ -8,17 +9,14 @@ use borrow.Author.Tests.{eqb-true, leb-true, leb-false, eq-eqb, ne_eqb, not-true
 use lib.Dec.{leb}
 use lib.Ieee.{Float}
 use lib.ListN.{length, take, drop, length-append, length-drop}
-use lib.Seq.{sets, take_at, take_all, length-take-le}
+use lib.Seq.{take_at, take_all, length-take-le}
 use Rattle.floats.proofs.Choice.{yes, no, and_no, both_pass}
 use Rattle.words.specs.Words.{number_at}
 use Rattle.segments.specs.declared.Corners.{Corners}
-use Rattle.segments.specs.declared.Settings.{Settings}
 use Rattle.packed.specs.declared.unpacked.Form.{Form}
 use Rattle.packed.specs.declared.unpacked.Form.TheVariants.{Round, Pointed, Either}
-use Rattle.packed.specs.declared.unpacked.Packed.{Packed}
-use Rattle.packed.specs.declared.unpacked.Packed.TheVariants.{Job, Malformed}
-use Rattle.packed.specs.Packed.{numbers_of, well_formed, count_of, closed_of, source_of, settings_of, packed_of, decoded, decoded_by, has_ratio, job_in, corners_in, decoded_of}
-use Rattle.packed.proofs.Writing.{sets_front}
+use Rattle.packed.specs.declared.unpacked.PackedJob.{PackedJob}
+use Rattle.packed.specs.Packed.{numbers_of, well_formed, count_of, source_of, packed_of, decoded, decoded_by, has_ratio, job_in, corners_in, decoded_of}
 
 -- ---- the numbers of the vertices
 
@@ -26,12 +24,6 @@ pub length-numbers : (bytes : List ℕ) (k : ℕ) → length (numbers_of bytes k
 unfolding numbers_of
 length-numbers bytes zero = refl
 length-numbers bytes (suc k) = let n = length-numbers bytes k in rw length-append (omega arith)
-
--- the first k, in a list with room for them
-pub placed : (bytes : List ℕ) (k : ℕ) (old : List Float) → k ≤ length old → sets old 0 (numbers_of bytes k) ≡ numbers_of bytes k ++ drop k old
-placed bytes k old h =
-    let n = length-numbers bytes k in
-    sets_front old (numbers_of bytes k) (omega arith) ∙ ap (λ j. numbers_of bytes k ++ drop j old) n
 
 -- ---- well formed
 
@@ -65,57 +57,46 @@ module _ (bytes : List ℕ) where
   formed e n = sym e ∙ not-false _ n
 
   -- for whoever calls `decode`: the two ways of it
-  module _ (corners : Corners) (old : List Float) {p : Packed} {s : List Float} (e : decoded p s ≡ decoded_by corners bytes old) where
-    as_job : well_formed bytes ≡ true → (p ≡ packed_of corners bytes) × (s ≡ source_of bytes ++ drop (3 * count_of bytes) old)
+  module _ (corners : Corners) (old : List Float) {p : Option PackedJob} {s : List Float} (e : decoded p s ≡ decoded_by corners bytes old) where
+    as_job : well_formed bytes ≡ true → (p ≡ Some (packed_of corners bytes)) × (s ≡ source_of bytes ++ drop (3 * count_of bytes) old)
     unfolding decoded_by
     as_job w = let q = e ∙ sym (yes _ _ _ w refl) in (ap (λ d. d.answer) q, ap (λ d. d.source) q)
 
-    as_none : well_formed bytes ≡ false → p ≡ Malformed
+    as_none : well_formed bytes ≡ false → p ≡ None
     unfolding decoded_by
     as_none w = ap (λ d. d.answer) (e ∙ sym (no _ _ _ w refl))
 
-    none-by : (b : Bool) → well_formed bytes ≡ b → p ≡ Malformed → well_formed bytes ≡ false
-    unfolding packed_of
-    none-by true w m =
-        let k : p ≡ packed_of corners bytes = (as_job w).0 in
-        let z : ◌≡◌ {A = ℕ} 0 1 = cc in
-        absurd (omega arith)
+    none-by : (b : Bool) → well_formed bytes ≡ b → p ≡ None → well_formed bytes ≡ false
+    none-by true w m = let k = (as_job w).0 in cc
     none-by false w m = w
 
-    pub decoded-none : p ≡ Malformed → well_formed bytes ≡ false
+    pub decoded-none : p ≡ None → well_formed bytes ≡ false
     decoded-none m = none-by (well_formed bytes) refl m
 
-    module _ {closed : Bool} {v : ℕ} {σ : Settings} (j : p ≡ Job closed v σ) where
+    module _ {j : PackedJob} (is : p ≡ Some j) where
       well_by : (b : Bool) → well_formed bytes ≡ b → well_formed bytes ≡ true
       well_by true w = w
-      well_by false w =
-          let k : p ≡ Malformed = as_none w in
-          let z : ◌≡◌ {A = ℕ} 0 1 = cc in
-          absurd (omega arith)
+      well_by false w = let k = as_none w in cc
 
       pub decoded_well : well_formed bytes ≡ true
       decoded_well = well_by (well_formed bytes) refl
 
       -- a job is that of the bytes
-      pub decoded_parts : (closed ≡ closed_of bytes) × ((v ≡ count_of bytes) × (σ ≡ settings_of corners bytes))
-      unfolding packed_of
-      decoded_parts =
-          let k : p ≡ packed_of corners bytes = (as_job decoded_well).0 in
-          let is : Job closed v σ ≡ packed_of corners bytes = sym j ∙ k in
-          (cc, (cc, cc))
+      pub decoded_job : j ≡ packed_of corners bytes
+      decoded_job = let k = (as_job decoded_well).0 in cc
 
       -- it has at most 512 vertices, and the list holds their numbers
-      pub decoded-room : (v ≤ 512) × (3 * v ≤ length s)
-      unfolding source_of
+      pub decoded-room : (j.vertices ≤ 512) × (3 * j.vertices ≤ length s)
+      unfolding source_of packed_of
       decoded-room =
-          let n = decoded_parts.1.0 in
+          let n = ap (λ k. k.vertices) decoded_job in
           let l = ap length (as_job decoded_well).1 ∙ length-append (source_of bytes) (drop (3 * count_of bytes) old) in
           (omega (arith, few decoded_well), omega (arith, length-numbers bytes (3 * count_of bytes)))
 
-      pub decoded-numbers : take (3 * v) s ≡ source_of bytes
-      unfolding source_of
+      pub decoded-numbers : take (3 * j.vertices) s ≡ source_of bytes
+      unfolding source_of packed_of
       decoded-numbers =
-          rw (decoded_parts.1.0, (as_job decoded_well).1)
+          rw (decoded_job, (as_job decoded_well).1)
           (take_at (source_of bytes) (drop (3 * count_of bytes) old) (3 * count_of bytes) (length-numbers bytes (3 * count_of bytes)))
 
 -- ---- a packed job, a pointed one, or either
@@ -188,7 +169,7 @@ module _ (form : Form) (bytes : List ℕ) (old : List Float) where
   decoded-round e n = let w = without_ratio form bytes (sym e ∙ not-true _ n) in rw (w.0, w.1)
 
   -- the ratio is cut short, and so no job follows it
-  pub decoded-short : length bytes < 8 → decoded Malformed old ≡ decoded_of form bytes old
+  pub decoded-short : length bytes < 8 → decoded None old ≡ decoded_of form bytes old
   unfolding decoded_by
   decoded-short h = no _ _ _ (too_short bytes form (omega arith)) refl
 

@@ -69,6 +69,11 @@ unfolding places_of
 at_most zero n = omega arith
 at_most (suc d) n = below (ltb n 10) (places_of d (n / 10)) d (at_most d (n / 10))
 
+-- 64 bits take at most 20 digits, and a byte comes after them
+pub most_decimal : (n e : ℕ) → length (decimal_of n then e) ≤ 21
+unfolding decimal_of
+most_decimal n e = omega (arith, length-then (decimal_of n) e, length_digits 10 (places_of 19 n) n, at_most 19 n)
+
 -- what `io::decimal` writes of a number of 64 bits
 pub decimal : (n k : ℕ) → n < 2 ^ 64 → IsDigitCount 10 1 n k → last_digits 10 k n ≡ decimal_of n
 unfolding decimal_of

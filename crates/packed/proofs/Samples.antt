@@ -5,13 +5,15 @@ use mathlib.Core.Bool.{Bool, true, false}
 use Prim.Native.Nat.{ℕ}
 use lib.ListN.{replicate}
 use lib.Ieee.{Float, binary64, of_bits, to_bits}
+use Rattle.std.specs.Prelude.{Option, Some, None}
 use Rattle.floats.specs.Choice.{when◌give◌else◌, ◌and◌}
 use Rattle.moves.specs.declared.Origin.{Origin}
 use Rattle.moves.specs.declared.Origin.TheVariants.{Span, Connector}
 use Rattle.words.specs.Words.{big_endian, number_at}
+use Rattle.segments.specs.declared.Settings.{Settings}
 use Rattle.segments.specs.Modes.{round_by, pointed_by}
 use Rattle.packed.specs.declared.unpacked.Form.TheVariants.{Round, Pointed, Either}
-use Rattle.packed.specs.declared.unpacked.Packed.TheVariants.{Job, Malformed}
+use Rattle.packed.specs.declared.unpacked.PackedJob.{PackedJob}
 use Rattle.packed.specs.Packed.{header_of, closed_of, zero_of, count_of, offset_of, eps_of, numbers_of, source_of, well_formed, packed_of, decoded, decoded_by, job_in, corners_in, decoded_of}
 use Rattle.packed.specs.Text.{ascii, places_of, decimal_of, hex_of, refusal_of, head_of, mark_of, row_of, line_at, lines_of, text_of, printed, printed_of, origin_line, origin_lines, origins_text, three_of, pair_of, told_of}
 
@@ -125,7 +127,11 @@ before = numbers (one ∷ one ∷ one ∷ one ∷ [])
 abbrev after : List Float
 after = numbers (four ∷ 0 ∷ nan ∷ one ∷ [])
 
-pub one-vertex : decoded_of Round vertex before ≡ decoded (Job true 1 (round_by (of_bits binary64 one) (of_bits binary64 two))) after
+-- a closed job of one vertex
+abbrev one_closed : Settings → Option PackedJob
+one_closed σ = Some (record { closed = true; vertices = 1; settings = σ })
+
+pub one-vertex : decoded_of Round vertex before ≡ decoded (one_closed (round_by (of_bits binary64 one) (of_bits binary64 two))) after
 unfolding opened
 one-vertex = refl
 
@@ -138,12 +144,12 @@ pub one-vertex-pointed :
     ∷ decoded_of Round (word 0x40 0x10 ++ vertex) before
     ∷ decoded_of Pointed (replicate 7 0) before
     ∷ []
-    ≡ decoded (Job true 1 (pointed_by (of_bits binary64 one) (of_bits binary64 two) (of_bits binary64 four))) after
-    ∷ decoded (Job true 1 (pointed_by (of_bits binary64 one) (of_bits binary64 two) (of_bits binary64 four))) after
-    ∷ decoded (Job true 1 (round_by (of_bits binary64 one) (of_bits binary64 two))) after
-    ∷ decoded Malformed before
-    ∷ decoded Malformed before
-    ∷ decoded Malformed before
+    ≡ decoded (one_closed (pointed_by (of_bits binary64 one) (of_bits binary64 two) (of_bits binary64 four))) after
+    ∷ decoded (one_closed (pointed_by (of_bits binary64 one) (of_bits binary64 two) (of_bits binary64 four))) after
+    ∷ decoded (one_closed (round_by (of_bits binary64 one) (of_bits binary64 two))) after
+    ∷ decoded None before
+    ∷ decoded None before
+    ∷ decoded None before
     ∷ []
 unfolding opened
 one-vertex-pointed = refl

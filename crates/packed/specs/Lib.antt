@@ -1,2 +1,3 @@
 pub mod Packed
 pub mod Text
+pub mod Writes

@@ -1,13 +1,12 @@
 -- The packed job that `rawoffset` reads (01 §5), and the pointed one of `rawpointed` (02's 2026-13), over the list of its bytes: fields stand most significant first. Definitions only.
-use Rattle.std.specs.Prelude.{ℕ, zero, suc, ◌+◌, ◌*◌, ◌/◌, ◌%◌, List, [], ◌∷◌, ◌++◌, Bool, true, false, eqb, leb, length, drop, Float}
+use Rattle.std.specs.Prelude.{ℕ, zero, suc, ◌+◌, ◌*◌, ◌/◌, ◌%◌, List, [], ◌∷◌, ◌++◌, Bool, true, false, eqb, leb, length, drop, Float, Option, Some, None}
 use Rattle.floats.specs.Choice.{when◌give◌else◌, ◌and◌}
 use Rattle.words.specs.Words.{big_endian, number_at}
 use Rattle.segments.specs.declared.Corners.{Corners}
 use Rattle.segments.specs.declared.Settings.{Settings}
 use Rattle.packed.specs.declared.unpacked.Form.{Form}
 use Rattle.packed.specs.declared.unpacked.Form.TheVariants.{Round, Pointed, Either}
-use Rattle.packed.specs.declared.unpacked.Packed.{Packed}
-use Rattle.packed.specs.declared.unpacked.Packed.TheVariants.{Job, Malformed}
+use Rattle.packed.specs.declared.unpacked.PackedJob.{PackedJob}
 
 -- 01 §5: the first 16 bits are closed (1 bit), zero (3 bits) and v (12 bits)
 unfoldable pub header_of : List ℕ → ℕ
@@ -45,21 +44,21 @@ well_formed bytes = eqb (length bytes) (2 + 16 + 24 * count_of bytes) and eqb (z
 abbrev pub settings_of : Corners → List ℕ → Settings
 settings_of corners bytes = record { offset = offset_of bytes; eps = eps_of bytes; corners = corners }
 
-unfoldable pub packed_of : Corners → List ℕ → Packed
-packed_of corners bytes = Job (closed_of bytes) (count_of bytes) (settings_of corners bytes)
+unfoldable pub packed_of : Corners → List ℕ → PackedJob
+packed_of corners bytes = record { closed = closed_of bytes; vertices = count_of bytes; settings = settings_of corners bytes }
 
 -- the answer and what the lent list holds
 pub record Decoded : Type 0 where
-  pub answer : Packed
+  pub answer : Option PackedJob
   pub source : List Float
 
-abbrev pub decoded : Packed → List Float → Decoded
+abbrev pub decoded : Option PackedJob → List Float → Decoded
 decoded p s = record { answer = p; source = s }
 
--- The job, with the vertices' numbers at the start of the list and the rest as it was; or malformed, and the list as it was.
+-- The job, with the vertices' numbers at the start of the list and the rest as it was; or none, where it is malformed, and the list as it was.
 unfoldable pub decoded_by : Corners → List ℕ → List Float → Decoded
 decoded_by corners bytes old =
-    when well_formed bytes give decoded (packed_of corners bytes) (source_of bytes ++ drop (3 * count_of bytes) old) else decoded Malformed old
+    when well_formed bytes give decoded (Some (packed_of corners bytes)) (source_of bytes ++ drop (3 * count_of bytes) old) else decoded None old
 
 -- ---- a packed job, a pointed one, or either
 

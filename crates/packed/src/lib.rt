@@ -5,8 +5,5 @@
 mod text;
 mod unpacked;
 
-pub use text::{
-    mark_of, put_answer, put_decimal, put_head, put_line, put_lines, put_origin, put_origins,
-    put_refusal, put_three, put_told,
-};
-pub use unpacked::{Form, Packed, decode};
+pub use text::{Text, mark_of};
+pub use unpacked::{Form, PackedJob, decode};

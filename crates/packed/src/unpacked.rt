@@ -1,7 +1,6 @@
 // A packed job, taken apart. Fields stand most significant first. A pointed one (2026-13) is its ratio, and
 // then a packed job.
 ghost use Rattle.std.specs.Prelude.{◌≡◌, ◌+◌, ◌*◌, ◌≤◌, length};
-ghost use Rattle.std.proofs.lemmas.List.Edits.{sets};
 ghost use Rattle.packed.specs.Packed.{has_ratio, well_formed, numbers_of, decoded, decoded_by, decoded_of};
 
 use segments::{Corners, Settings};
@@ -14,25 +13,23 @@ pub enum Form {
     Either,
 }
 
+// What is asked for. The numbers of its vertices stand beside it.
 #[derive(Clone, Copy)]
-pub enum Packed {
-    Job {
-        closed: bool,
-        vertices: usize,
-        settings: Settings,
-    },
-    Malformed,
+pub struct PackedJob {
+    pub closed: bool,
+    pub vertices: usize,
+    pub settings: Settings,
 }
 
-// The job, with its vertices' numbers at the start of `source`; what is malformed leaves `source` as it was.
-pub fn decode(form: Form, bytes: &[u8], source: &mut [f64; 1536]) -> Packed
+// The job, with its vertices' numbers at the start of `source`; what is malformed is none, and leaves `source` as it was.
+pub fn decode(form: Form, bytes: &[u8], source: &mut [f64; 1536]) -> Option<PackedJob>
     ensures { decoded result source.new ≡ decoded_of form bytes.now source.old }
 {
     if !has_ratio(form, bytes.len()) {
         return decode_by(Corners::Round, bytes, source);
     }
     if bytes.len() < 8 {
-        return Packed::Malformed;
+        return None;
     }
     let ratio = words::number_at(bytes, 0);
     decode_by(Corners::Pointed { ratio }, &bytes[8..], source)
@@ -50,25 +47,25 @@ fn has_ratio(form: Form, length: usize) -> bool
 }
 
 // A packed job, whose corners are told beside it.
-fn decode_by(corners: Corners, bytes: &[u8], source: &mut [f64; 1536]) -> Packed
+fn decode_by(corners: Corners, bytes: &[u8], source: &mut [f64; 1536]) -> Option<PackedJob>
     ensures { decoded result source.new ≡ decoded_by corners bytes.now source.old }
 {
     if !well_formed(bytes) {
-        return Packed::Malformed;
+        return None;
     }
     let header = words::big_endian(bytes, 0, 2);
     let v = (header % 4096) as usize;
-    fill(bytes, 3 * v, source);
+    fill(bytes, &mut source[..3 * v]);
     let settings = Settings {
         offset: words::number_at(bytes, 2),
         eps: words::number_at(bytes, 10),
         corners,
     };
-    Packed::Job {
+    Some(PackedJob {
         closed: header / 32768 == 1,
         vertices: v,
         settings,
-    }
+    })
 }
 
 fn well_formed(bytes: &[u8]) -> bool
@@ -82,13 +79,12 @@ fn well_formed(bytes: &[u8]) -> bool
     bytes.len() == 18 + 24 * v && (header / 4096 % 8 == 0 && v <= 512)
 }
 
-// The first `count` numbers of the vertices.
-fn fill(bytes: &[u8], count: usize, source: &mut [f64])
-    requires count_in_bounds { 18 + 8 * count ≤ length bytes.now }
-    requires count_in_bounds_2 { count ≤ length source.old }
-    ensures { source.new ≡ sets source.old 0 (numbers_of bytes.now count) }
+// The first numbers of the vertices, as many as there are places.
+fn fill(bytes: &[u8], numbers: &mut [f64])
+    requires { 18 + 8 * length numbers.old ≤ length bytes.now }
+    ensures { numbers.new ≡ numbers_of bytes.now (length numbers.old) }
 {
-    for k in 0..count {
-        source[k] = words::number_at(bytes, 18 + 8 * k);
+    for (k, number) in numbers.iter_mut().enumerate() {
+        *number = words::number_at(bytes, 18 + 8 * k);
     }
 }

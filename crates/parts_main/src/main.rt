@@ -7,7 +7,7 @@
 use part::Bounds;
 use refusals::Answer;
 use segments::SourceSegment;
-use words::{least, print, read_word};
+use words::{print, read_word};
 
 // A row has no more flags and origins.
 const MOST: usize = 64;
@@ -17,13 +17,9 @@ fn print_next(n: u32) {
     let _written = io::print_decimal(1, n as u64);
 }
 
-fn of_flag(flag: u8) -> u32 {
-    flag as u32
-}
-
 fn print_flags(flags: &[u8]) {
-    for i in 0..flags.len() {
-        print_next(of_flag(flags[i]));
+    for &flag in flags {
+        print_next(flag as u32);
     }
 }
 
@@ -33,14 +29,14 @@ fn read_half() -> u32 {
 }
 
 fn read_origins(count: usize, origins: &mut [u32]) {
-    for i in 0..least(count, origins.len()) {
-        origins[i] = read_half();
+    for origin in origins.iter_mut().take(count) {
+        *origin = read_half();
     }
 }
 
 fn number_flags(flags: &mut [u8]) {
-    for i in 0..flags.len() {
-        flags[i] = (i % 256) as u8;
+    for (i, flag) in flags.iter_mut().enumerate() {
+        *flag = (i % 256) as u8;
     }
 }
 
@@ -64,8 +60,8 @@ fn tell_first(
     count: usize,
     source: SourceSegment,
 ) {
-    let flags_end = least(flag_count, flags.len());
-    let origins_end = least(count, origins.len());
+    let flags_end = flag_count.min(flags.len());
+    let origins_end = count.min(origins.len());
     tell(n, &flags[..flags_end], &origins[..origins_end], source);
 }
 

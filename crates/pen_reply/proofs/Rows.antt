@@ -1,44 +1,46 @@
--- The text of what a call hands out: each place of the buffers by itself, and the three in a row. Assumes nothing.
-use mathlib.Core.Path.{◌≡◌, refl, sym, ap, ◌∙◌}
-use mathlib.Core.Bool.{true, false}
-use mathlib.Core.List.{List, [], ◌∷◌, ◌++◌}
-use Prim.Native.Nat.{ℕ, zero, suc, ◌+◌, ◌<◌, ◌≤◌}
-use native.Mathlib.Nat.{zero-add}
+-- The text of what a call hands out: what stands at each place of the buffers, and how long it is. Assumes nothing.
+use mathlib.Core.Path.{◌≡◌, refl}
+use mathlib.Core.Bool.{Bool, true, false}
+use mathlib.Core.List.{List, [], ◌∷◌}
+use Prim.Native.Nat.{ℕ, zero, suc, ◌<◌, ◌≤◌}
 use native.Mathlib.Omega.{arith}
 use borrow.Author.Tests.{lt-ltb, le-ltb, eq-eqb}
-use lib.ListN.{length, get_or, drop}
-use lib.Seq.{sets}
+use lib.ListN.{length, get_or, length-append}
+use Rattle.floats.specs.Choice.{when◌give◌else◌}
 use Rattle.floats.proofs.Choice.{yes, no}
 use Rattle.segments.specs.declared.PlineVertex.{PlineVertex}
 use Rattle.source.specs.InnerSteps.{vertex_of}
 use Rattle.moves.specs.declared.Origin.{Origin}
 use Rattle.moves.specs.Origins.{origin_of, origins_in}
 use Rattle.sheet.specs.Buffers.{no_origin}
-use Rattle.packed.specs.Text.{space, line_end, head_of, mark_of, row_of, origin_line}
-use Rattle.packed.proofs.Writing.{sets_front}
-use Rattle.packed.proofs.Lines.{Shown, shown, two-rows, next_row, length-row}
+use Rattle.packed.specs.Text.{space, line_end, mark_of}
+use Rattle.packed.proofs.Lines.{length-row, most_origin}
 use Rattle.pieces.specs.declared.DrawAnswer.{DrawAnswer}
-use Rattle.pen_reply.specs.Pen.{segment_line, last_line, place_text, piece_text, closing_text}
+use Rattle.pen_reply.specs.Pen.{segment_line, last_line, vertex_at, place_text, piece_text}
 
--- ---- lines
+-- ---- lengths
 
-module _ (v : PlineVertex) (flag : ℕ) (o : Origin) (l₀ : List ℕ) (at : ℕ) where
-  pub segment : {m : ℕ} {l₁ l₂ : List ℕ} {k : ℕ} → m ≡ mark_of false flag → l₁ ≡ sets l₀ at (row_of v.x v.y v.bulge m space) →
-      l₂ ≡ sets l₁ (at + 53) (origin_line o) → k ≡ at + 53 + length (origin_line o) →
-      (k ≡ at + length (segment_line v flag o)) × (l₂ ≡ sets l₀ at (segment_line v flag o))
-  unfolding segment_line
-  segment {m} e p q r =
-      let n = length-row v.x v.y v.bulge (mark_of false flag) space in
-      let at-origin : at + 53 ≡ at + length (row_of v.x v.y v.bulge (mark_of false flag) space) = omega arith in
-      next_row l₀ at (row_of v.x v.y v.bulge (mark_of false flag) space) (origin_line o) (rw (← e) p) at-origin q r
+most_segment : (v : PlineVertex) (flag : ℕ) (o : Origin) → length (segment_line v flag o) ≤ 84
+unfolding segment_line
+most_segment v flag o = rw length-append (omega (arith, length-row v.x v.y v.bulge (mark_of false flag) space, most_origin o))
 
-pub length_last : (v : PlineVertex) → length (last_line v) ≡ 53
+length_last : (v : PlineVertex) → length (last_line v) ≡ 53
 unfolding last_line
 length_last v = length-row v.x v.y v.bulge (mark_of true 0) line_end
 
-pub last : (v : PlineVertex) (l₀ : List ℕ) (at : ℕ) {m : ℕ} {l₁ : List ℕ} → m ≡ mark_of true 0 → l₁ ≡ sets l₀ at (row_of v.x v.y v.bulge m line_end) → l₁ ≡ sets l₀ at (last_line v)
-unfolding last_line
-last v l₀ at e p = rw (← e) p
+either : (t : Bool) (xs ys : List ℕ) → length xs ≤ 84 → length ys ≤ 84 → length (when t give xs else ys) ≤ 84
+unfolding when◌give◌else◌
+either true xs ys p q = p
+either false xs ys p q = q
+
+pub most_place : (a : DrawAnswer) (vs : List PlineVertex) (fs : List ℕ) (os : List Origin) (i : ℕ) → length (place_text a vs fs os i) ≤ 84
+unfolding place_text
+most_place a vs fs os i =
+    either _ _ _ (most_segment _ _ _) (either _ _ _ (omega (arith, length_last (vertex_at vs i))) (omega arith))
+
+pub most_piece : (a : DrawAnswer) (vs : List PlineVertex) (fs : List ℕ) (os : List Origin) → length (piece_text a vs fs os) ≤ 252
+unfolding piece_text
+most_piece a vs fs os = rw (length-append, length-append) (omega (arith, most_place a vs fs os 0, most_place a vs fs os 1, most_place a vs fs os 2))
 
 -- ---- places
 
@@ -61,26 +63,3 @@ module _ (a : DrawAnswer) (vs : List PlineVertex) (fs codes : List ℕ) (i : ℕ
   pub at_none : a.segments ≤ i → a.vertices ≤ i → [] ≡ place_text a vs fs (origins_in codes) i
   unfolding place_text
   at_none h k = no _ _ _ (le-ltb _ _ h) (no _ _ _ (le-ltb _ _ k) refl)
-
--- ---- the three of them
-
-module _ (a : DrawAnswer) (vs : List PlineVertex) (fs : List ℕ) (os : List Origin) (l₀ : List ℕ) where
-  pub three-places : {l₁ l₂ l₃ : List ℕ} {i j k : ℕ} →
-      l₁ ≡ sets l₀ 0 (place_text a vs fs os 0) → i ≡ 0 + length (place_text a vs fs os 0) →
-      l₂ ≡ sets l₁ i (place_text a vs fs os 1) → j ≡ i + length (place_text a vs fs os 1) →
-      l₃ ≡ sets l₂ j (place_text a vs fs os 2) → k ≡ j + length (place_text a vs fs os 2) →
-      (k ≡ length (piece_text a vs fs os)) × (l₃ ≡ sets l₀ 0 (piece_text a vs fs os))
-  unfolding piece_text
-  three-places e p f q g r =
-      let s = next_row l₀ 0 (place_text a vs fs os 0) (place_text a vs fs os 1) e p f q in
-      let t = next_row l₀ 0 (place_text a vs fs os 0 ++ place_text a vs fs os 1) (place_text a vs fs os 2) s.1 s.0 g r in
-      (t.0 ∙ zero-add _, t.1)
-
-  pub piece-shown : {l : List ℕ} {n : ℕ} → n ≡ length (piece_text a vs fs os) → l ≡ sets l₀ 0 (piece_text a vs fs os) → n ≤ length l₀ → Shown (piece_text a vs fs os) l₀ n l
-  piece-shown {l} {n} e q room =
-      shown (piece_text a vs fs os) l₀ l n e (q ∙ sets_front l₀ (piece_text a vs fs os) (omega arith) ∙ ap (λ k. piece_text a vs fs os ++ drop k l₀) (sym e))
-
-  pub closing-shown : (before : ℕ) {l₁ l₂ : List ℕ} {i j : ℕ} → l₁ ≡ sets l₀ 0 (piece_text a vs fs os) → i ≡ length (piece_text a vs fs os) →
-      l₂ ≡ sets l₁ i (head_of (before + a.vertices) false) → j ≡ i + length (head_of (before + a.vertices) false) → j ≤ length l₀ → Shown (closing_text before a vs fs os) l₀ j l₂
-  unfolding closing_text
-  closing-shown before e p f q room = two-rows l₀ (piece_text a vs fs os) (head_of (before + a.vertices) false) e p f q room

@@ -10,15 +10,16 @@
 // last vertex has a line of `rawoffset`'s; and the first line of `rawoffset` comes last. A refusal is its number and its place.
 #![tactic(auto)]
 
-ghost use Rattle.std.specs.Prelude.{◌≡◌, Bool, ◌++◌, ◌+◌, ◌≤◌, ◌<◌, length, drop};
-ghost use Rattle.std.proofs.lemmas.List.Edits.{sets};
+ghost use Rattle.std.specs.Prelude.{◌≡◌, Bool, ◌++◌, ◌<◌, length, drop};
 ghost use Rattle.io.specs.Counts.{IsPrefixLen};
 ghost use Rattle.source.specs.Source.{vertices_of};
 ghost use Rattle.moves.specs.Origins.{origins_in};
-ghost use Rattle.packed.specs.Text.{refusal_of, line_of};
+ghost use Rattle.packed.specs.Text.{refusal_of};
+ghost use Rattle.packed.specs.Writes.{HasRoom, Writes};
 ghost use Rattle.pen_reply.specs.Pen.{well_formed, settings_in, numbers_in, segment_line, last_line, place_text, piece_text, closing_text, segments_before, said, sayings, begin_of, draw_of, end_of, next_of};
 
 use moves::Origin;
+use packed::Text;
 use pieces::{DrawAnswer, OpenJob};
 use refusals::Refusal;
 use segments::{PlineVertex, Settings};
@@ -31,12 +32,33 @@ pub struct Pen {
     pub written: usize,
 }
 
+// The same, where the text is written on.
+#[derive(Clone, Copy)]
+struct Step {
+    job: OpenJob,
+    more: bool,
+}
+
 // The job that a packed head begins. The text, at the start of `text`, is empty, or a refusal.
 pub fn begin(bytes: &[u8], text: &mut [u8; 98304]) -> Pen
     ensures prefix_len { IsPrefixLen result.written text.new }
     ensures written_value { result.written ≡ length (begin_of bytes.now).text }
     ensures text_after { text.new ≡ (begin_of bytes.now).text ++ drop result.written text.old }
     ensures bytes_value { sayings result (begin_of bytes.now).text ≡ begin_of bytes.now }
+{
+    let mut out = Text::new(text);
+    let step = begin_on(bytes, &mut out);
+    Pen {
+        job: step.job,
+        more: step.more,
+        written: out.len(),
+    }
+}
+
+fn begin_on(bytes: &[u8], text: &mut Text) -> Step
+    requires { HasRoom 42 text.old }
+    ensures step { said result.job result.more (begin_of bytes.now).text ≡ begin_of bytes.now }
+    ensures text { Writes (begin_of bytes.now).text text.old text.new }
 {
     if !well_formed(bytes) {
         let called = pieces::start(Settings::round(0.0, 0.0));
@@ -49,11 +71,7 @@ pub fn begin(bytes: &[u8], text: &mut [u8; 98304]) -> Pen
     if answer.number != 0 {
         return refused(job, answer.number, answer.place, text);
     }
-    Pen {
-        job,
-        more: true,
-        written: 0,
-    }
+    Step { job, more: true }
 }
 
 // What follows the head: a vertex, or, at the end of input, nothing. A vertex that is cut short is malformed.
@@ -62,6 +80,20 @@ pub fn next(job: OpenJob, bytes: &[u8], text: &mut [u8; 98304]) -> Pen
     ensures written_value { result.written ≡ length (next_of job bytes.now).text }
     ensures text_after { text.new ≡ (next_of job bytes.now).text ++ drop result.written text.old }
     ensures bytes_value { sayings result (next_of job bytes.now).text ≡ next_of job bytes.now }
+{
+    let mut out = Text::new(text);
+    let step = next_on(job, bytes, &mut out);
+    Pen {
+        job: step.job,
+        more: step.more,
+        written: out.len(),
+    }
+}
+
+fn next_on(job: OpenJob, bytes: &[u8], text: &mut Text) -> Step
+    requires { HasRoom 301 text.old }
+    ensures step { said result.job result.more (next_of job bytes.now).text ≡ next_of job bytes.now }
+    ensures text { Writes (next_of job bytes.now).text text.old text.new }
 {
     if bytes.len() == 0 {
         return end(job, text);
@@ -95,26 +127,21 @@ fn settings_in(bytes: &[u8]) -> Settings
 }
 
 // A refusal ends the job's text.
-fn refused(job: OpenJob, number: u32, place: u32, text: &mut [u8; 98304]) -> Pen
-    ensures prefix_len { IsPrefixLen result.written text.new }
-    ensures written_value { result.written ≡ length (refusal_of number place) }
-    ensures text_after { text.new ≡ refusal_of number place ++ drop result.written text.old }
-    ensures place_value { sayings result (refusal_of number place) ≡ said job Bool.false (refusal_of number place) }
+fn refused(job: OpenJob, number: u32, place: u32, text: &mut Text) -> Step
+    requires { HasRoom 42 text.old }
+    ensures step { said result.job result.more (refusal_of number place) ≡ said job Bool.false (refusal_of number place) }
+    ensures text { Writes (refusal_of number place) text.old text.new }
 {
-    Pen {
-        job,
-        more: false,
-        written: packed::put_refusal(number, place, text),
-    }
+    text.refusal(number, place);
+    Step { job, more: false }
 }
 
 // A vertex, and the lines of what it makes certain.
-fn draw(job: OpenJob, bytes: &[u8], text: &mut [u8; 98304]) -> Pen
-    requires { length bytes.now ≡ 24 }
-    ensures prefix_len { IsPrefixLen result.written text.new }
-    ensures written_value { result.written ≡ length (draw_of job bytes.now).text }
-    ensures text_after { text.new ≡ (draw_of job bytes.now).text ++ drop result.written text.old }
-    ensures bytes_value { sayings result (draw_of job bytes.now).text ≡ draw_of job bytes.now }
+fn draw(job: OpenJob, bytes: &[u8], text: &mut Text) -> Step
+    requires bytes { length bytes.now ≡ 24 }
+    requires room { HasRoom 252 text.old }
+    ensures step { said result.job result.more (draw_of job bytes.now).text ≡ draw_of job bytes.now }
+    ensures text { Writes (draw_of job bytes.now).text text.old text.new }
 {
     let source = numbers_in(bytes);
     let mut vertices = [0.0; 9];
@@ -134,19 +161,18 @@ fn draw(job: OpenJob, bytes: &[u8], text: &mut [u8; 98304]) -> Pen
     if answer.number != 0 {
         return refused(after, answer.number, answer.place, text);
     }
-    Pen {
+    put_piece(answer, &vertices, &flags, &origins, text);
+    Step {
         job: after,
         more: true,
-        written: put_piece(answer, &vertices, &flags, &origins, text),
     }
 }
 
 // The lines of the rest, and the line of the count.
-fn end(job: OpenJob, text: &mut [u8; 98304]) -> Pen
-    ensures prefix_len { IsPrefixLen result.written text.new }
-    ensures written_value { result.written ≡ length (end_of job).text }
-    ensures text_after { text.new ≡ (end_of job).text ++ drop result.written text.old }
-    ensures job_value { sayings result (end_of job).text ≡ end_of job }
+fn end(job: OpenJob, text: &mut Text) -> Step
+    requires { HasRoom 301 text.old }
+    ensures step { said result.job result.more (end_of job).text ≡ end_of job }
+    ensures text { Writes (end_of job).text text.old text.new }
 {
     let mut vertices = [0.0; 9];
     let mut flags = [0u8; 3];
@@ -159,10 +185,10 @@ fn end(job: OpenJob, text: &mut [u8; 98304]) -> Pen
         return refused(after, answer.number, answer.place, text);
     }
     let before = segments_before(job);
-    Pen {
+    put_closing(before, answer, &vertices, &flags, &origins, text);
+    Step {
         job: after,
         more: false,
-        written: put_closing(before, answer, &vertices, &flags, &origins, text),
     }
 }
 
@@ -197,96 +223,65 @@ fn put_closing(
     vertices: &[f64; 9],
     flags: &[u8; 3],
     origins: &[u32; 3],
-    out: &mut [u8; 98304],
-) -> usize
-    ensures prefix_len { IsPrefixLen result out.new }
-    ensures value { result ≡ length (closing_text before answer (vertices_of vertices.now) flags.now (origins_in origins.now)) }
-    ensures out_after { out.new ≡ closing_text before answer (vertices_of vertices.now) flags.now (origins_in origins.now) ++ drop result out.old }
+    text: &mut Text,
+)
+    requires { HasRoom 301 text.old }
+    ensures { Writes (closing_text before answer (vertices_of vertices.now) flags.now (origins_in origins.now)) text.old text.new }
 {
-    let at = put_places(answer, vertices, flags, origins, out);
-    let count = before as u64 + answer.vertices as u64;
-    packed::put_head(count, false, out, at)
+    put_piece(answer, vertices, flags, origins, text);
+    text.head(before as u64 + answer.vertices as u64, false);
 }
 
-// What a call handed out.
+// What a call handed out: the three places of the buffers, one after the other.
 fn put_piece(
     answer: DrawAnswer,
     vertices: &[f64; 9],
     flags: &[u8; 3],
     origins: &[u32; 3],
-    out: &mut [u8; 98304],
-) -> usize
-    ensures prefix_len { IsPrefixLen result out.new }
-    ensures value { result ≡ length (piece_text answer (vertices_of vertices.now) flags.now (origins_in origins.now)) }
-    ensures out_after { out.new ≡ piece_text answer (vertices_of vertices.now) flags.now (origins_in origins.now) ++ drop result out.old }
+    text: &mut Text,
+)
+    requires { HasRoom 252 text.old }
+    ensures { Writes (piece_text answer (vertices_of vertices.now) flags.now (origins_in origins.now)) text.old text.new }
 {
-    put_places(answer, vertices, flags, origins, out)
+    put_place(answer, 0, vertices, flags, origins, text);
+    put_place(answer, 1, vertices, flags, origins, text);
+    put_place(answer, 2, vertices, flags, origins, text);
 }
 
-// The three places of the buffers, one after the other.
-fn put_places(
-    answer: DrawAnswer,
-    vertices: &[f64],
-    flags: &[u8],
-    origins: &[u32],
-    out: &mut [u8],
-) -> usize
-    requires vertices_len { (length vertices.now ≡ 9) × (length flags.now ≡ 3) × (length origins.now ≡ 3) }
-    requires in_bounds { 252 ≤ length out.old }
-    ensures value { result ≡ length (piece_text answer (vertices_of vertices.now) flags.now (origins_in origins.now)) }
-    ensures upper_bound { result ≤ 252 }
-    ensures out_after { out.new ≡ sets out.old 0 (piece_text answer (vertices_of vertices.now) flags.now (origins_in origins.now)) }
-{
-    let first = put_place(answer, 0, vertices, flags, origins, out, 0);
-    let second = put_place(answer, 1, vertices, flags, origins, out, first);
-    put_place(answer, 2, vertices, flags, origins, out, second)
-}
-
-// Place i of the buffers: a segment's, the last vertex's, or none's. Answers the place past its line.
+// Place i of the buffers: a segment's, the last vertex's, or none's.
 fn put_place(
     answer: DrawAnswer,
     i: usize,
-    vertices: &[f64],
-    flags: &[u8],
-    origins: &[u32],
-    out: &mut [u8],
-    at: usize,
-) -> usize
-    requires vertices_len { (length vertices.now ≡ 9) × (length flags.now ≡ 3) × (length origins.now ≡ 3) }
-    requires i_bound { (i < 3) × (at + 84 ≤ length out.old) }
-    ensures value { result ≡ at + length (place_text answer (vertices_of vertices.now) flags.now (origins_in origins.now) i) }
-    ensures upper_bound { result ≤ at + 84 }
-    ensures out_after { out.new ≡ sets out.old at (place_text answer (vertices_of vertices.now) flags.now (origins_in origins.now) i) }
+    vertices: &[f64; 9],
+    flags: &[u8; 3],
+    origins: &[u32; 3],
+    text: &mut Text,
+)
+    requires place { i < 3 }
+    requires room { HasRoom 84 text.old }
+    ensures { Writes (place_text answer (vertices_of vertices.now) flags.now (origins_in origins.now) i) text.old text.new }
 {
     let v = source::vertex_at(vertices, i);
     if i < answer.segments as usize {
-        return put_segment(v, flags[i], Origin::from(origins[i]), out, at);
+        put_segment(v, flags[i], Origin::from(origins[i]), text);
+    } else if i < answer.vertices as usize {
+        put_last(v, text);
     }
-    if i < answer.vertices as usize {
-        return put_last(v, out, at);
-    }
-    at
 }
 
-// The line of a segment. Answers the place past it.
-fn put_segment(v: PlineVertex, flag: u8, origin: Origin, out: &mut [u8], at: usize) -> usize
-    requires { at + 84 ≤ length out.old }
-    ensures value { result ≡ at + length (segment_line v flag origin) }
-    ensures upper_bound { result ≤ at + 84 }
-    ensures out_after { out.new ≡ sets out.old at (segment_line v flag origin) }
+// The line of a segment.
+fn put_segment(v: PlineVertex, flag: u8, origin: Origin, text: &mut Text)
+    requires { HasRoom 84 text.old }
+    ensures { Writes (segment_line v flag origin) text.old text.new }
 {
-    let mark = packed::mark_of(false, flag);
-    packed::put_line(v.x, v.y, v.bulge, mark, b' ', out, at);
-    packed::put_origin(origin, out, at + 53)
+    text.line(v, packed::mark_of(false, flag), b' ');
+    text.origin(origin);
 }
 
-// The line of the last vertex. Answers the place past it.
-fn put_last(v: PlineVertex, out: &mut [u8], at: usize) -> usize
-    requires { at + 53 ≤ length out.old }
-    ensures value { result ≡ at + length (last_line v) }
-    ensures upper_bound { result ≤ at + 53 }
-    ensures out_after { out.new ≡ sets out.old at (last_line v) }
+// The line of the last vertex.
+fn put_last(v: PlineVertex, text: &mut Text)
+    requires { HasRoom 53 text.old }
+    ensures { Writes (last_line v) text.old text.new }
 {
-    packed::put_line(v.x, v.y, v.bulge, packed::mark_of(true, 0), b'\n', out, at);
-    at + 53
+    text.line(v, packed::mark_of(true, 0), b'\n');
 }

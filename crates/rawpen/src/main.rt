@@ -14,7 +14,7 @@ const MOST_WRITTEN: usize = 98304;
 
 fn main() {
     let mut pen = begin();
-    for k in 0..STEPS {
+    for _ in 0..STEPS {
         if !pen.more {
             return;
         }

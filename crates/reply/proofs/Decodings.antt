@@ -1,39 +1,36 @@
 -- What the code has of the bytes after `decode`: a job, whose answer is the reply, or none; and which form the bytes have where either may come. Assumes nothing.
 use mathlib.Core.Path.{◌≡◌, refl, sym}
-use mathlib.Core.Bool.{Bool, true}
+use mathlib.Core.Bool.{true}
 use mathlib.Core.List.{List}
+use Rattle.std.specs.Prelude.{Option, Some, None}
 use Prim.Native.Nat.{ℕ, ◌*◌}
 use lib.ListN.{take, drop}
 use lib.Ieee.{Float}
 use Rattle.floats.proofs.Choice.{yes, no}
-use Rattle.segments.specs.declared.Settings.{Settings}
-use Rattle.refusals.specs.declared.Refusal.TheVariants as Refusal
+use Rattle.refusals.specs.declared.Refusal.TheVariants.{Malformed}
 use Rattle.refusals.specs.Table.{number_of, place_of}
 use Rattle.source.specs.Source.{rows}
 use Rattle.job.specs.Job.{job_of}
-use Rattle.packed.specs.declared.unpacked.Packed.{Packed}
-use Rattle.packed.specs.declared.unpacked.Packed.TheVariants.{Job, Malformed}
+use Rattle.packed.specs.declared.unpacked.PackedJob.{PackedJob}
 use Rattle.packed.specs.declared.unpacked.Form.{Form}
 use Rattle.packed.specs.declared.unpacked.Form.TheVariants.{Round, Pointed, Either}
-use Rattle.packed.specs.Packed.{well_formed, decoded, decoded_of, job_in, corners_in}
+use Rattle.packed.specs.Packed.{well_formed, packed_of, decoded, decoded_of, job_in, corners_in}
 use Rattle.packed.specs.Text.{refusal_of}
-use Rattle.packed.proofs.Bytes.{decoded-none, decoded_well, decoded_parts, decoded-numbers, without_ratio, with-ratio, never_pointed, never_round}
+use Rattle.packed.proofs.Bytes.{decoded-none, decoded_well, decoded_job, decoded-numbers, without_ratio, with-ratio, never_pointed, never_round}
 use Rattle.reply.specs.Reply.{blank, answer_text, outcome_of, reply_by}
 use Rattle.reply.specs.declared.Asked.{Asked}
 
-module _ (asked : Asked) (form : Form) (bytes : List ℕ) (old : List Float) {p : Packed} {s : List Float} (e : decoded p s ≡ decoded_of form bytes old) where
-  pub refused : p ≡ Malformed → reply_by asked form bytes ≡ refusal_of (number_of Refusal.Malformed) (place_of Refusal.Malformed)
+module _ (asked : Asked) (form : Form) (bytes : List ℕ) (old : List Float) {p : Option PackedJob} {s : List Float} (e : decoded p s ≡ decoded_of form bytes old) where
+  pub refused : p ≡ None → reply_by asked form bytes ≡ refusal_of (number_of Malformed) (place_of Malformed)
   unfolding reply_by
   refused m = sym (no _ _ _ (decoded-none (job_in form bytes) (corners_in form bytes) old e m) refl)
 
-  pub worked : {closed : Bool} {v : ℕ} {σ : Settings} → p ≡ Job closed v σ
-      → reply_by asked form bytes ≡ answer_text asked (job_of (rows (take (3 * v) s)) closed σ blank)
-  unfolding reply_by outcome_of
-  worked j =
+  pub worked : {j : PackedJob} → p ≡ Some j → reply_by asked form bytes ≡ answer_text asked (job_of (rows (take (3 * j.vertices) s)) j.closed j.settings blank)
+  unfolding reply_by outcome_of packed_of
+  worked is =
       let job = job_in form bytes in
       let corners = corners_in form bytes in
-      let is = decoded_parts job corners old e j in
-      sym (yes _ _ _ (decoded_well job corners old e j) (rw (decoded-numbers job corners old e j, is.0, is.1.1)))
+      sym (yes _ _ _ (decoded_well job corners old e is) (rw (decoded-numbers job corners old e is, decoded_job job corners old e is)))
 
 -- where either may come, a packed job is answered as one, and a pointed one as that
 module _ (asked : Asked) (bytes : List ℕ) where

@@ -9,11 +9,12 @@ ghost use Rattle.moves.specs.Origins.{origins_in};
 ghost use Rattle.source.specs.Source.{rows};
 ghost use Rattle.sheet.specs.Buffers.{buffers};
 ghost use Rattle.job.specs.Job.{ending, job_of};
+ghost use Rattle.packed.specs.Writes.{HasRoom, Writes};
 ghost use Rattle.reply.specs.Reply.{blank, done_text, answer_text, reply_by, reply_of, pointed_reply_of, origins_reply_of};
 
 use job::RawOffsetAnswer;
 use moves::RawOffsetResult;
-use packed::{Form, Packed};
+use packed::{Form, Text};
 use refusals::Refusal;
 use segments::{Corners, Settings};
 
@@ -35,7 +36,9 @@ pub fn reply(bytes: &[u8], text: &mut [u8; 98304]) -> usize
     ensures value { result ≡ length (reply_of bytes.now) }
     ensures text_after { text.new ≡ reply_of bytes.now ++ drop result text.old }
 {
-    reply_by(Asked::Drawing, Form::Round, bytes, text)
+    let mut out = Text::new(text);
+    reply_by(Asked::Drawing, Form::Round, bytes, &mut out);
+    out.len()
 }
 
 // The same for a pointed packed job.
@@ -44,7 +47,9 @@ pub fn reply_pointed(bytes: &[u8], text: &mut [u8; 98304]) -> usize
     ensures value { result ≡ length (pointed_reply_of bytes.now) }
     ensures text_after { text.new ≡ pointed_reply_of bytes.now ++ drop result text.old }
 {
-    reply_by(Asked::Drawing, Form::Pointed, bytes, text)
+    let mut out = Text::new(text);
+    reply_by(Asked::Drawing, Form::Pointed, bytes, &mut out);
+    out.len()
 }
 
 // The origins of the output segments, of either.
@@ -53,41 +58,28 @@ pub fn reply_origins(bytes: &[u8], text: &mut [u8; 98304]) -> usize
     ensures value { result ≡ length (origins_reply_of bytes.now) }
     ensures text_after { text.new ≡ origins_reply_of bytes.now ++ drop result text.old }
 {
-    reply_by(Asked::Origins, Form::Either, bytes, text)
+    let mut out = Text::new(text);
+    reply_by(Asked::Origins, Form::Either, bytes, &mut out);
+    out.len()
 }
 
-fn reply_by(asked: Asked, form: Form, bytes: &[u8], text: &mut [u8; 98304]) -> usize
-    ensures prefix_len { IsPrefixLen result text.new }
-    ensures value { result ≡ length (reply_by asked form bytes.now) }
-    ensures text_after { text.new ≡ reply_by asked form bytes.now ++ drop result text.old }
+fn reply_by(asked: Asked, form: Form, bytes: &[u8], text: &mut Text)
+    requires { HasRoom 98304 text.old }
+    ensures { Writes (reply_by asked form bytes.now) text.old text.new }
 {
     let mut source = [0.0; 1536];
-    let job = packed::decode(form, bytes, &mut source);
-    match job {
-        Packed::Malformed => {
-            let refusal = Refusal::Malformed;
-            packed::put_refusal(refusal.number(), refusal.place(), text)
-        }
-        Packed::Job {
-            closed,
-            vertices,
-            settings,
-        } => work(asked, &source[..3 * vertices], closed, settings, text),
-    }
+    let Some(job) = packed::decode(form, bytes, &mut source) else {
+        return text.refuse(Refusal::Malformed);
+    };
+    let numbers = &source[..3 * job.vertices];
+    work(asked, numbers, job.closed, job.settings, text);
 }
 
 // Works a job of at most 512 vertices, and prints what became of it.
-fn work(
-    asked: Asked,
-    source: &[f64],
-    closed: bool,
-    settings: Settings,
-    text: &mut [u8; 98304],
-) -> usize
-    requires { length source.now ≤ 1536 }
-    ensures prefix_len { IsPrefixLen result text.new }
-    ensures value { result ≡ length (answer_text asked (job_of (rows source.now) closed settings blank)) }
-    ensures text_after { text.new ≡ answer_text asked (job_of (rows source.now) closed settings blank) ++ drop result text.old }
+fn work(asked: Asked, source: &[f64], closed: bool, settings: Settings, text: &mut Text)
+    requires source { length source.now ≤ 1536 }
+    requires room { HasRoom 98304 text.old }
+    ensures { Writes (answer_text asked (job_of (rows source.now) closed settings blank)) text.old text.new }
 {
     let mut vertices = [0.0; VERTICES];
     let mut flags = [0u8; SEGMENTS];
@@ -104,9 +96,10 @@ fn work(
     );
     let number = answer.number();
     if number == 0 {
-        return put_done(asked, answer.result(), &vertices, &flags, &origins, text);
+        put_done(asked, answer.result(), &vertices, &flags, &origins, text);
+    } else {
+        text.refusal(number, answer.place());
     }
-    packed::put_refusal(number, answer.place(), text)
 }
 
 // In either mode.
@@ -155,20 +148,15 @@ fn put_done(
     vertices: &[f64; 4608],
     flags: &[u8; 1536],
     origins: &[u32; 1536],
-    text: &mut [u8; 98304],
-) -> usize
-    requires { r.vertices ≤ 1536 }
-    ensures prefix_len { IsPrefixLen result text.new }
-    ensures value { result ≡ length (done_text asked r vertices.now flags.now (origins_in origins.now)) }
-    ensures text_after { text.new ≡ done_text asked r vertices.now flags.now (origins_in origins.now) ++ drop result text.old }
+    text: &mut Text,
+)
+    requires few { r.vertices ≤ 1536 }
+    requires room { HasRoom 98304 text.old }
+    ensures { Writes (done_text asked r vertices.now flags.now (origins_in origins.now)) text.old text.new }
 {
     let count = r.vertices as usize;
     match asked {
-        Asked::Drawing => packed::put_answer(count, r.closed, vertices, flags, text),
-        Asked::Origins => packed::put_origins(
-            source::segment_count(count, r.closed),
-            origins,
-            text,
-        ),
+        Asked::Drawing => text.answer(count, r.closed, vertices, flags),
+        Asked::Origins => text.origins(source::segment_count(count, r.closed), origins),
     }
 }

@@ -1,16 +1,12 @@
--- The lines of the entries, one after the other, and the text that they end. Assumes nothing.
+-- The lines of the entries, one after the other, and how long they are. Assumes nothing.
 use mathlib.Core.Path.{◌≡◌, sym, ap, ◌∙◌}
 use mathlib.Core.List.{List, [], ◌∷◌, ◌++◌, append_assoc, append-nil}
-use Prim.Native.Nat.{ℕ, zero, suc, ◌+◌, ◌<◌, ◌≤◌}
-use native.Mathlib.Nat.{zero-add}
+use Prim.Native.Nat.{ℕ, zero, suc, ◌*◌, ◌<◌, ◌≤◌}
 use native.Mathlib.Omega.{arith}
-use lib.ListN.{length, take, get_or}
-use lib.Seq.{sets}
-use Rattle.packed.specs.Text.{◌then◌, decimal_of, space, line_end, three_of}
-use Rattle.packed.proofs.Lines.{Shown, two-rows, next_row}
-use Rattle.compare.specs.declared.Differences.{Differences}
-use Rattle.compare.specs.Compare.{marks_number}
-use Rattle.same_reply.specs.Same.{entry_lines, differences_text}
+use lib.ListN.{length, take, get_or, length-append}
+use Rattle.packed.specs.Text.{◌then◌, decimal_of, space, line_end}
+use Rattle.packed.proofs.Digits.{most_decimal}
+use Rattle.same_reply.specs.Same.{entry_lines}
 
 -- the line of one vertex
 abbrev pub line_for : ℕ → ℕ → List ℕ
@@ -27,13 +23,8 @@ entry-lines-next (n ∷ ns) (f ∷ fs) (suc k) h g =
     let next = entry-lines-next ns fs k (omega arith) (omega arith) in
     ap (λ t. line_for n f ++ t) next ∙ sym (append_assoc (line_for n f) (entry_lines (take k ns) (take k fs)) (line_for (get_or ns k 0) (get_or fs k 0)))
 
-module _ (d : Differences) (ns fs l₀ : List ℕ) where
-  pub difference_rows : {l₁ l₂ l₃ : List ℕ} {i j k m : ℕ} → m ≡ marks_number d →
-      l₁ ≡ sets l₀ 0 (three_of 0 d.listed d.unmatched) → i ≡ 0 + length (three_of 0 d.listed d.unmatched) →
-      l₂ ≡ sets l₁ i (decimal_of m then line_end) → j ≡ i + length (decimal_of m then line_end) →
-      l₃ ≡ sets l₂ j (entry_lines (take d.listed ns) (take d.listed fs)) → k ≡ j + length (entry_lines (take d.listed ns) (take d.listed fs)) →
-      k ≤ length l₀ → Shown (differences_text d ns fs) l₀ k l₃
-  unfolding differences_text
-  difference_rows {m = m} marks e p f q g r room =
-      let s = next_row l₀ 0 (three_of 0 d.listed d.unmatched) (decimal_of m then line_end) e p f q in
-      rw (← marks) (two-rows l₀ (three_of 0 d.listed d.unmatched ++ (decimal_of m then line_end)) (entry_lines (take d.listed ns) (take d.listed fs)) s.1 (s.0 ∙ zero-add _) g r room)
+pub most_entries : (ns fs : List ℕ) → length (entry_lines ns fs) ≤ 42 * length ns
+unfolding entry_lines
+most_entries [] fs = omega arith
+most_entries (n ∷ ns) [] = omega arith
+most_entries (n ∷ ns) (f ∷ fs) = rw (length-append, length-append) (omega (arith, most_decimal n space, most_decimal f line_end, most_entries ns fs))

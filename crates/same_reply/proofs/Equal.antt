@@ -1,11 +1,13 @@
 -- Two rows of bytes are the same where `same` says so, and only there. Assumes nothing.
-use mathlib.Core.Path.{◌≡◌, refl, sym, ap}
+use mathlib.Core.Path.{◌≡◌, refl, sym}
 use mathlib.Core.List.{List, [], ◌∷◌}
 use mathlib.Core.Bool.{Bool, true, false}
 use Prim.Native.Nat.{ℕ}
 use borrow.Author.Tests.{eqb-true, eq-eqb}
 use lib.Dec.{eqb}
-use lib.ListN.{length, get_or}
+use Rattle.std.specs.Prelude.{◌&&◌}
+use Rattle.std.specs.Cmp.Lexicographic.{pointwise}
+use Rattle.floats.specs.Choice.{when◌give◌else◌, ◌and◌}
 use Rattle.floats.proofs.Choice.{both_pass}
 use Rattle.same_reply.specs.Read.{same}
 
@@ -28,17 +30,15 @@ same_self (x ∷ xs) = (both_pass (eqb x x) (same xs xs)).1 (eq-eqb x x refl, sa
 pub equal-same : (xs ys : List ℕ) → xs ≡ ys → same xs ys ≡ true
 equal-same xs ys e = rw e (same_self ys)
 
-pub unlike : (xs ys : List ℕ) → (xs ≡ ys → ⊥) → same xs ys ≡ false
-unlike xs ys h = tell (same xs ys) refl
-  where
-    tell : (b : Bool) → same xs ys ≡ b → same xs ys ≡ false
-    tell true e = absurd (h (same-equal xs ys e))
-    tell false e = e
+-- as std's `==` tells it
+both_alike : (b : Bool) {p q : Bool} → p ≡ q → (b && p) ≡ (b and q)
+unfolding ◌and◌ when◌give◌else◌
+both_alike true e = e
+both_alike false e = refl
 
--- rows of two lengths
-pub lengths_differ : (xs ys : List ℕ) → (length xs ≡ length ys → ⊥) → same xs ys ≡ false
-lengths_differ xs ys h = unlike xs ys (λ e. h (ap length e))
-
--- rows that differ at some place
-pub places-differ : (xs ys : List ℕ) (i : ℕ) → (get_or xs i 0 ≡ get_or ys i 0 → ⊥) → same xs ys ≡ false
-places-differ xs ys i h = unlike xs ys (λ e. h (ap (λ l. get_or l i 0) e))
+pub equal_told : (xs ys : List ℕ) → pointwise eqb xs ys ≡ same xs ys
+unfolding same
+equal_told [] [] = refl
+equal_told [] (y ∷ ys) = refl
+equal_told (x ∷ xs) [] = refl
+equal_told (x ∷ xs) (y ∷ ys) = both_alike (eqb x y) (equal_told xs ys)

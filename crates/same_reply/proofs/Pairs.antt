@@ -9,7 +9,7 @@ use native.Mathlib.Omega.{arith}
 use borrow.Author.Tests.{le-leb, lt-leb}
 use lib.Ieee.{Float}
 use lib.ListN.{length, take, drop, replicate, length-append, length-drop, length-replicate, take-append-drop, drop_of_length-le}
-use lib.Seq.{length-take-le, take_at, take_all, sets}
+use lib.Seq.{length-take-le, take_at, take_all}
 use Rattle.floats.specs.Choice.{when◌give◌else◌}
 use Rattle.floats.proofs.Choice.{yes, no, and_yes, and_no, either_fails}
 use Rattle.refusals.specs.declared.Refusal.TheVariants.{Malformed}
@@ -19,7 +19,6 @@ use Rattle.source.specs.Source.{segments_of}
 use Rattle.source.proofs.Source.{length-vertices}
 use Rattle.source.proofs.Segments.{segments-most}
 use Rattle.packed.specs.Text.{places_of, decimal_of, head_of, text_of, refusal_of}
-use Rattle.packed.proofs.Writing.{sets_front}
 use Rattle.compare.specs.Compare.{Output, output, points_of, compare_of}
 use Rattle.same_reply.specs.Read.{count_of, closed_of, numbers_at, flags_at, lines_from, read_of, text_in, same, is_text}
 use Rattle.same_reply.specs.Same.{outcome_text, blank, first_in, second_in, pair_text, same_reply_of}
@@ -112,13 +111,6 @@ module _ {o : Output} {count : ℕ} {closed : Bool} {ns : List Float} {fs : List
 
     pub flags-fit : segs ≡ length (take segs fs)
     flags-fit = sym (length-take-le segs fs flags-within)
-
--- ---- a text printed at the start of a list
-
-pub printed : (l₀ xs : List ℕ) {l : List ℕ} {i : ℕ} → l ≡ sets l₀ 0 xs → i ≡ 0 + length xs → i ≤ length l₀ → take i l ≡ xs
-printed l₀ xs {l} {i} e p h =
-    let n : length xs ≡ i = omega arith in
-    ap (take i) (e ∙ sets_front l₀ xs (omega arith)) ∙ take_at xs (drop (length xs) l₀) i n
 
 -- ---- whether a text is an output's
 

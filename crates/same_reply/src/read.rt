@@ -2,7 +2,10 @@
 // only where its own text turns out to be what was read.
 ghost use Rattle.std.specs.Prelude.{◌≡◌, [], ◌∷◌, ◌++◌, ◌+◌, ◌*◌, ◌≤◌, ◌<◌, length, drop};
 ghost use Rattle.std.proofs.lemmas.List.Edits.{sets};
+ghost use Rattle.packed.specs.Text.{head_of};
 ghost use Rattle.same_reply.specs.Read.{byte_at, digit_of, hexadecimal, double_at, count_of, closed_of, numbers_at, flag_of, flags_at, lines_from};
+
+use packed::Text;
 
 // What an output's first line says, and where the lines of its vertices start.
 #[derive(Clone, Copy)]
@@ -16,10 +19,7 @@ pub struct Head {
 fn byte_at(bytes: &[u8], i: usize) -> u8
     ensures { result ≡ byte_at bytes.now i }
 {
-    if i < bytes.len() {
-        return bytes[i];
-    }
-    0
+    bytes.get(i).copied().unwrap_or(0)
 }
 
 // The low four bits are the digit, and from `a` on nine less than it.
@@ -76,9 +76,7 @@ fn closed_of(text: &[u8], count: usize) -> bool
     requires count_bound { count ≤ 200000 }
     ensures { result ≡ closed_of text.now }
 {
-    let mut out = [0u8; 49];
-    let n = packed::put_head(count as u64, false, &mut out, 0);
-    byte_at(text, n - 5) == b'c'
+    byte_at(text, length_of_head(count, false) - 5) == b'c'
 }
 
 // The first line of an output's text.
@@ -91,13 +89,22 @@ pub fn head_of(text: &[u8]) -> Head
 {
     let count = count_of(text);
     let closed = closed_of(text, count);
-    let mut out = [0u8; 49];
-    let lines = packed::put_head(count as u64, closed, &mut out, 0);
     Head {
         count,
         closed,
-        lines,
+        lines: length_of_head(count, closed),
     }
+}
+
+// How long the first line is: as long as it is printed.
+fn length_of_head(count: usize, closed: bool) -> usize
+    ensures value { result ≡ length (head_of count closed) }
+    ensures upper_bound { result ≤ 49 }
+{
+    let mut out = [0u8; 49];
+    let mut head = Text::new(&mut out);
+    head.head(count as u64, closed);
+    head.len()
 }
 
 // The numbers of `count` vertices, whose lines stand from place i on, at the start of `numbers`.
@@ -130,8 +137,8 @@ pub fn read_flags(bytes: &[u8], i: usize, count: usize, flags: &mut [u8])
     requires count_in_bounds { count ≤ length flags.old }
     ensures { flags.new ≡ flags_at bytes.now i count ++ drop count flags.old }
 {
-    for k in 0..count {
-        flags[k] = flag_of(byte_at(bytes, i + 53 * k + 51));
+    for (k, flag) in flags[..count].iter_mut().enumerate() {
+        *flag = flag_of(byte_at(bytes, i + 53 * k + 51));
     }
 }
 

@@ -7,7 +7,7 @@
 
 use segments::{OutputSegment, Settings};
 use why::WhyNumbers;
-use words::{print, read_number, read_word};
+use words::{print, read_word};
 
 // More segments than a stored job draws.
 const MOST_SEGMENTS: u32 = 256;
@@ -43,30 +43,17 @@ fn tell_each(source: &[f64], closed: bool, settings: Settings) {
 }
 
 fn tell_job(source: &[f64], count: usize, closed: bool, settings: Settings) {
-    let numbers = words::least(count, source.len());
+    let numbers = count.min(source.len());
     tell_each(&source[..numbers], closed, settings);
     let _told = tell(&source[..numbers], closed, settings, u32::MAX);
-}
-
-// Of pointed corners the ratio is read too.
-fn read_settings(pointed: bool) -> Settings {
-    let offset = read_number();
-    let eps = read_number();
-    if pointed {
-        return Settings::pointed(offset, eps, read_number());
-    }
-    Settings::round(offset, eps)
 }
 
 // A stored job: at most 42 vertices.
 fn row() {
     let mut source = [0.0; 128];
-    let count = read_word() as usize;
-    let mode = read_word();
-    let closed = mode % 2 == 1;
-    let settings = read_settings(mode > 1);
-    words::read_numbers(count, &mut source);
-    tell_job(&source, count, closed, settings);
+    let head = stored::read_head();
+    words::read_numbers(head.numbers, &mut source);
+    tell_job(&source, head.numbers, head.closed, head.settings);
 }
 
 fn main() {

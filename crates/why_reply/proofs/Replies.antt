@@ -1,7 +1,8 @@
 -- What the code has of the bytes after `decode`, and the two texts of an answer. Assumes nothing.
 use mathlib.Core.Path.{◌≡◌, refl, sym, ap, ◌∙◌}
-use mathlib.Core.Bool.{Bool, false}
+use mathlib.Core.Bool.{false}
 use mathlib.Core.List.{List}
+use Rattle.std.specs.Prelude.{Option, Some, None}
 use Prim.Native.Nat.{ℕ, ◌*◌, ◌-◌, ◌<◌}
 use native.Mathlib.Omega.{arith}
 use borrow.Author.Tests.{eq-eqb, ne_eqb}
@@ -14,14 +15,12 @@ use Rattle.words.specs.Words.{big_endian}
 use Rattle.refusals.specs.declared.Refusal.TheVariants as Refused
 use Rattle.refusals.specs.Table.{number_of, place_of}
 use Rattle.segments.specs.declared.Corners.{Corners}
-use Rattle.segments.specs.declared.Settings.{Settings}
 use Rattle.source.specs.Source.{rows}
 use Rattle.packed.specs.declared.unpacked.Form.TheVariants.{Either}
-use Rattle.packed.specs.declared.unpacked.Packed.{Packed}
-use Rattle.packed.specs.declared.unpacked.Packed.TheVariants.{Job, Malformed}
-use Rattle.packed.specs.Packed.{well_formed, decoded, job_in, corners_in, decoded_of}
+use Rattle.packed.specs.declared.unpacked.PackedJob.{PackedJob}
+use Rattle.packed.specs.Packed.{well_formed, packed_of, decoded, job_in, corners_in, decoded_of}
 use Rattle.packed.specs.Text.{refusal_of, told_of}
-use Rattle.packed.proofs.Bytes.{too_short, decoded-none, decoded_well, decoded_parts, decoded-numbers}
+use Rattle.packed.proofs.Bytes.{too_short, decoded-none, decoded_well, decoded_job, decoded-numbers}
 use Rattle.why.specs.declared.WhyNumbers.{WhyNumbers}
 use Rattle.why.specs.Why.{why_of, numbers_of}
 use Rattle.why_reply.specs.WhyReply.{telling_text, packed_answer, packed_reply, why_reply_of}
@@ -50,22 +49,19 @@ asked bytes e =
 
 -- ---- after `decode`
 
-module _ (bytes : List ℕ) (old : List Float) {p : Packed} {s : List Float} (e : decoded p s ≡ decoded_of Either bytes old) (k : ℕ) where
+module _ (bytes : List ℕ) (old : List Float) {p : Option PackedJob} {s : List Float} (e : decoded p s ≡ decoded_of Either bytes old) (k : ℕ) where
   abbrev job : List ℕ
   job = job_in Either bytes
 
   abbrev corners : Corners
   corners = corners_in Either bytes
 
-  pub refused : p ≡ Malformed → packed_reply bytes k ≡ malformed_text
+  pub refused : p ≡ None → packed_reply bytes k ≡ malformed_text
   refused m = none bytes k (decoded-none job corners old e m)
 
-  pub worked : {closed : Bool} {v : ℕ} {σ : Settings} → p ≡ Job closed v σ
-      → packed_reply bytes k ≡ telling_text (numbers_of (why_of (rows (take (3 * v) s)) closed σ k))
-  unfolding packed_reply packed_answer
-  worked j =
-      let is = decoded_parts job corners old e j in
-      sym (yes _ _ _ (decoded_well job corners old e j) (rw (decoded-numbers job corners old e j, is.0, is.1.1)))
+  pub worked : {j : PackedJob} → p ≡ Some j → packed_reply bytes k ≡ telling_text (numbers_of (why_of (rows (take (3 * j.vertices) s)) j.closed j.settings k))
+  unfolding packed_reply packed_answer packed_of
+  worked is = sym (yes _ _ _ (decoded_well job corners old e is) (rw (decoded-numbers job corners old e is, decoded_job job corners old e is)))
 
 -- ---- the texts
 

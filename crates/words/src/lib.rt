@@ -2,8 +2,7 @@
 // and how the programs over stored samples print.
 #![tactic(auto)]
 
-ghost use Rattle.std.specs.Prelude.{◌≡◌, ◌+◌, ◌*◌, ◌≤◌, ◌<◌, ltb, length};
-ghost use Rattle.floats.specs.Choice.{when◌give◌else◌};
+ghost use Rattle.std.specs.Prelude.{◌≡◌, ◌+◌, ◌*◌, ◌≤◌, length};
 ghost use Rattle.words.specs.Words.{big_endian, number_at};
 ghost use Rattle.words.specs.InnerSteps.{vector_at};
 
@@ -15,18 +14,11 @@ pub fn big_endian(bytes: &[u8], at: usize, count: usize) -> u64
     requires count_bound { count ≤ 8 }
     ensures { result ≡ big_endian bytes.now at count }
 {
-    let mut word = 0u64;
-    for k in 0..count {
-        word = word * 256 + wide(bytes[at + k]);
+    let mut word = 0;
+    for &byte in &bytes[at..at + count] {
+        word = word * 256 + byte as u64;
     }
     word
-}
-
-fn wide(b: u8) -> u64
-    ensures value { result ≡ b }
-    ensures upper_bound { result < 256 }
-{
-    b as u64
 }
 
 // The number with the 64 bits from place `at` on.
@@ -75,17 +67,10 @@ pub fn read_number() -> f64 {
     bits::number_of(read_word())
 }
 
-pub fn least(a: usize, b: usize) -> usize
-    ensures value { result ≡ when ltb a b give a else b }
-    ensures upper_bound { result ≤ b }
-{
-    if a < b { a } else { b }
-}
-
 // So many numbers of it, or as many as there are places.
 pub fn read_numbers(count: usize, numbers: &mut [f64]) {
-    for i in 0..least(count, numbers.len()) {
-        numbers[i] = read_number();
+    for number in numbers.iter_mut().take(count) {
+        *number = read_number();
     }
 }
 

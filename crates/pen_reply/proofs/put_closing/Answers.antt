@@ -1,15 +1,13 @@
 -- `put_closing` meets its contract. Assumes nothing.
 use native.Mathlib.Omega.{arith}
-use Rattle.pen_reply.proofs.Rows.{closing-shown}
+use Rattle.packed.proofs.Writing.{room_left, writes_more}
+use Rattle.pen_reply.specs.Pen.{closing_text}
+use Rattle.pen_reply.proofs.Rows.{most_piece}
 use Rattle.pen_reply.proofs.put_closing.Goals as goal
 
+pub head-requires : goal.head-requires
+head-requires c = room_left c.put_piece.ensures 252 49 (most_piece _ _ _ _) (omega arith)
+
 pub returns : goal.returns
-returns c =
-    let p = c.put_places-at.ensures in
-    let h = c.put_head.ensures in
-    let both = closing-shown _ _ _ _ c.args.out.now _ p.out_after p.value h.out_after h.value (omega (arith, p.upper_bound, h.upper_bound)) in
-    record {
-      prefix_len = both.0;
-      value = both.1.0;
-      out_after = both.1.1;
-    }
+unfolding closing_text
+returns c = writes_more c.put_piece.ensures c.head.ensures

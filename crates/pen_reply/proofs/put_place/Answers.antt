@@ -2,6 +2,7 @@
 use native.Mathlib.Omega.{arith}
 use Rattle.source.specs.Source.{vertices_of}
 use Rattle.source.proofs.Source.{length-vertices}
+use Rattle.packed.proofs.Writing.{writes_none}
 use Rattle.pen_reply.proofs.Rows.{at-segment, at_last, at_none}
 use Rattle.pen_reply.proofs.put_place.Goals as goal
 
@@ -12,29 +13,16 @@ pub returns-then-i-answer : goal.returns-then-i-answer
 returns-then-i-answer c =
     let a = c.args in
     let e = at-segment a.answer (vertices_of a.vertices.now) a.flags.now a.origins.now a.i c.if-i-answer.true c.vertex_at-v.ensures c.from.ensures in
-    record {
-      value = rw (← e) c.put_segment.ensures.value;
-      upper_bound = c.put_segment.ensures.upper_bound;
-      out_after = rw (← e) c.put_segment.ensures.out_after;
-    }
+    rw (← e) c.put_segment.ensures
 
 pub returns-then-i-answer-2 : goal.returns-then-i-answer-2
 returns-then-i-answer-2 c =
     let a = c.args in
     let e = at_last a.answer (vertices_of a.vertices.now) a.flags.now a.origins.now a.i c.if-i-answer.false c.if-i-answer-2.true c.vertex_at-v.ensures in
-    let p = c.put_last.ensures in
-    record {
-      value = rw (← e) p.value;
-      upper_bound = omega arith;
-      out_after = rw (← e) p.out_after;
-    }
+    rw (← e) c.put_last.ensures
 
-pub returns : goal.returns
-returns c =
+pub returns-else-i-answer-2 : goal.returns-else-i-answer-2
+returns-else-i-answer-2 c =
     let a = c.args in
     let e = at_none a.answer (vertices_of a.vertices.now) a.flags.now a.origins.now a.i c.if-i-answer.false c.if-i-answer-2.false in
-    record {
-      value = rw (← e) (omega arith);
-      upper_bound = omega arith;
-      out_after = rw (← e);
-    }
+    rw (← e) (writes_none (omega arith))

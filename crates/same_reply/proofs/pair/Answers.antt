@@ -1,52 +1,12 @@
 -- `pair` meets its contract. Assumes nothing.
-use mathlib.Core.Path.{sym, ◌∙◌}
-use borrow.Author.Tests.{not-true, not-false}
-use native.Mathlib.Omega.{arith}
-use Rattle.same_reply.proofs.Pairs.{numbers-within, numbers_fit, flags-within, flags-fit, first_fails, first_read}
+use mathlib.Core.Path.{sym}
+use Rattle.same_reply.proofs.Pairs.{first_fails, first_read}
 use Rattle.same_reply.proofs.pair.Goals as goal
 
-pub returns-then-not-found : goal.returns-then-not-found
-returns-then-not-found c =
-    let a = c.args in
-    let read = c.read_text-found in
-    record {
-      prefix_len = c.malformed.ensures.prefix_len;
-      value = rw (← first_fails a.a.now a.b.now (sym read.ensures.printed_value ∙ not-true read.result.printed c.if-not-found.true)) c.malformed.ensures.value;
-      text_after = rw (← first_fails a.a.now a.b.now (sym read.ensures.printed_value ∙ not-true read.result.printed c.if-not-found.true)) c.malformed.ensures.text_after;
-    }
-
-pub overflow_mul-numbers : goal.overflow_mul-numbers
-overflow_mul-numbers c =
-    let read = c.read_text-found in
-    omega (arith, (read.ensures.kept (not-false read.result.printed c.if-not-found.false)).few)
-
-pub slice_bounds-numbers-end : goal.slice_bounds-numbers-end
-slice_bounds-numbers-end c =
-    let read = c.read_text-found in
-    numbers-within (read.ensures.kept (not-false read.result.printed c.if-not-found.false))
-
-pub slice_bounds-with_first-end : goal.slice_bounds-with_first-end
-slice_bounds-with_first-end c =
-    let read = c.read_text-found in
-    numbers_fit (read.ensures.kept (not-false read.result.printed c.if-not-found.false))
-
-pub slice_bounds-flags-end : goal.slice_bounds-flags-end
-slice_bounds-flags-end c =
-    let read = c.read_text-found in
-    flags-within (read.ensures.kept (not-false read.result.printed c.if-not-found.false)) c.segment_count-segments.ensures
-
-pub slice_bounds-with_first-end-2 : goal.slice_bounds-with_first-end-2
-slice_bounds-with_first-end-2 c =
-    let read = c.read_text-found in
-    flags-fit (read.ensures.kept (not-false read.result.printed c.if-not-found.false)) c.segment_count-segments.ensures
+pub returns-in_default : goal.returns-in_default
+returns-in_default c = rw (← first_fails c.args.a.now c.args.b.now (sym c.in_default.ensures.found)) c.refuse.ensures
 
 pub returns : goal.returns
 returns c =
-    let a = c.args in
-    let read = c.read_text-found in
-    let told = (not-false read.result.printed c.if-not-found.false) in
-    record {
-      prefix_len = c.with_first.ensures.prefix_len;
-      value = rw (← first_read a.b.now a.a.now (sym read.ensures.printed_value ∙ told) (read.ensures.kept told) c.segment_count-segments.ensures) c.with_first.ensures.value;
-      text_after = rw (← first_read a.b.now a.a.now (sym read.ensures.printed_value ∙ told) (read.ensures.kept told) c.segment_count-segments.ensures) c.with_first.ensures.text_after;
-    }
+    let read = c.in-Some.ensures in
+    rw (← first_read c.args.b.now c.args.a.now (sym read.found) read.kept c.segment_count-segments.ensures) c.with_first.ensures

@@ -1,28 +1,12 @@
 -- `reply` meets its contract. Assumes nothing.
-use native.Mathlib.Omega.{arith}
-use Rattle.same_reply.proofs.Pairs.{cut_off, parted}
+use Rattle.packed.proofs.Writing.{whole}
 use Rattle.same_reply.proofs.reply.Goals as goal
-
-pub returns-then-all-lt-LENGTH_BYTES : goal.returns-then-all-lt-LENGTH_BYTES
-returns-then-all-lt-LENGTH_BYTES c =
-    record {
-      prefix_len = c.malformed.ensures.prefix_len;
-      value = rw (← cut_off c.args.bytes.now (omega arith)) c.malformed.ensures.value;
-      text_after = rw (← cut_off c.args.bytes.now (omega arith)) c.malformed.ensures.text_after;
-    }
-
-pub returns-then-n-all : goal.returns-then-n-all
-returns-then-n-all c =
-    record {
-      prefix_len = c.malformed-then-n-all.ensures.prefix_len;
-      value = rw (← cut_off c.args.bytes.now (omega arith)) c.malformed-then-n-all.ensures.value;
-      text_after = rw (← cut_off c.args.bytes.now (omega arith)) c.malformed-then-n-all.ensures.text_after;
-    }
 
 pub returns : goal.returns
 returns c =
+    let t = whole c.put_reply.ensures c.new-out.ensures.at c.new-out.ensures.bytes c.len.ensures in
     record {
-      prefix_len = c.pair.ensures.prefix_len;
-      value = rw (← parted c.args.bytes.now c.big_endian-n.ensures (omega arith)) c.pair.ensures.value;
-      text_after = rw (← parted c.args.bytes.now c.big_endian-n.ensures (omega arith)) c.pair.ensures.text_after;
+      prefix_len = t.0;
+      value = t.1.0;
+      text_after = t.1.1;
     }

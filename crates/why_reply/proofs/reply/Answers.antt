@@ -1,19 +1,12 @@
 -- `reply` meets its contract. Assumes nothing.
-use Rattle.why_reply.proofs.Replies.{cut_short, asked}
+use Rattle.packed.proofs.Writing.{whole}
 use Rattle.why_reply.proofs.reply.Goals as goal
-
-pub returns-then-bytes-lt4 : goal.returns-then-bytes-lt4
-returns-then-bytes-lt4 c =
-    record {
-      prefix_len = c.put_malformed.ensures.prefix_len;
-      value = rw (cut_short _ c.if-bytes-lt4.true) c.put_malformed.ensures.value;
-      text_after = rw (cut_short _ c.if-bytes-lt4.true) c.put_malformed.ensures.text_after;
-    }
 
 pub returns : goal.returns
 returns c =
+    let t = whole c.put_reply.ensures c.new-out.ensures.at c.new-out.ensures.bytes c.len.ensures in
     record {
-      prefix_len = c.reply_about.ensures.prefix_len;
-      value = rw (asked _ c.segment_of-segment.ensures) c.reply_about.ensures.value;
-      text_after = rw (asked _ c.segment_of-segment.ensures) c.reply_about.ensures.text_after;
+      prefix_len = t.0;
+      value = t.1.0;
+      text_after = t.1.1;
     }

@@ -1,10 +1,7 @@
 -- `big_endian` meets its contract. Assumes nothing.
-use Prim.Native.Nat.{◌-◌}
-use Rattle.words.proofs.Reading.{Reading}
+use mathlib.Core.Path.{◌≡◌}
+use Rattle.words.specs.Words.{big_endian}
 use Rattle.words.proofs.big_endian.Given as goal
 
-abbrev pub invariant-loop-k : goal.invariant-loop-k
-invariant-loop-k l = Reading l.bytes l.at l.count l.word l.k
-
-abbrev pub decreases-loop-k : goal.decreases-loop-k
-decreases-loop-k l = l.count - l.k
+abbrev pub invariant-loop-byte : goal.invariant-loop-byte
+invariant-loop-byte l = l.word ≡ big_endian l.bytes l.at l.byte-index

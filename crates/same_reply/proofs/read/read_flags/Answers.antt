@@ -1,26 +1,27 @@
 -- `read::read_flags` meets its contract. Assumes nothing.
-use mathlib.Core.List.{[], ◌∷◌}
-use mathlib.Core.Path.{refl, ◌∙◌}
+use mathlib.Core.List.{◌++◌}
+use mathlib.Core.Path.{◌≡◌, refl, sym, ap, ◌∙◌}
+use native.Mathlib.Numerals.{add-one}
 use native.Mathlib.Omega.{arith}
-use Rattle.packed.proofs.Writing.{writing_done, writing_none, writing_turn}
+use lib.ListN.{drop, length-take}
+use lib.Seq.{take_all, take-suc-set}
 use Rattle.same_reply.specs.Read.{flags_at}
-use Rattle.same_reply.proofs.Reading.{length-flags, placed}
 use Rattle.same_reply.proofs.read.read_flags.Goals as goal
 
 pub loop-k-init : goal.loop-k-init
 unfolding flags_at
-loop-k-init c = writing_none refl
+loop-k-init c = refl
 
 pub loop-k-preserved : goal.loop-k-preserved
 unfolding flags_at
 loop-k-preserved c =
-    let a = c.args in
     let at = c.loop-k in
-    let n = length-flags a.bytes.now a.i at.k in
-    writing_turn at.invariant c.loop-k-test.true (c.flag_of.result ∷ []) at.k (omega arith) (rw (c.flag_of.ensures, c.byte_at.ensures)) refl
+    rw (add-one, ← at.invariant, ← c.byte_at.ensures, ← c.flag_of.ensures) (take-suc-set at.flag-items at.k c.flag_of.result (omega arith))
 
 pub returns : goal.returns
 returns c =
     let a = c.args in
-    writing_done c.loop-k.invariant c.loop-k-test.false
-    ∙ placed (flags_at a.bytes.now a.i a.count) a.flags.now a.count (length-flags a.bytes.now a.i a.count) (omega arith)
+    let at = c.loop-k in
+    let n : at.k ≡ a.count = omega (arith, length-take a.count a.flags.now) in
+    let flags = sym (take_all at.k at.flag-items (omega (arith, at.auto.flag-items))) ∙ at.invariant ∙ ap (flags_at a.bytes.now a.i) n in
+    ap (λ fs. fs ++ drop a.count a.flags.now) flags

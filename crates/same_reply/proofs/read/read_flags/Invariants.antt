@@ -1,11 +1,8 @@
 -- `read::read_flags` meets its contract. Assumes nothing.
-use Prim.Native.Nat.{◌-◌}
-use Rattle.packed.proofs.Writing.{Writing}
+use mathlib.Core.Path.{◌≡◌}
+use lib.ListN.{take}
 use Rattle.same_reply.specs.Read.{flags_at}
 use Rattle.same_reply.proofs.read.read_flags.Given as goal
 
 abbrev pub invariant-loop-k : goal.invariant-loop-k
-invariant-loop-k l = Writing (flags_at l.bytes l.i) 0 l.count l.initial.flags l.flags l.k
-
-abbrev pub decreases-loop-k : goal.decreases-loop-k
-decreases-loop-k l = l.count - l.k
+invariant-loop-k l = take l.k l.flag-items ≡ flags_at l.bytes l.i l.k

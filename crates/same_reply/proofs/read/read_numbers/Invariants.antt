@@ -1,11 +1,8 @@
 -- `read::read_numbers` meets its contract. Assumes nothing.
-use Prim.Native.Nat.{◌-◌}
-use Rattle.packed.proofs.Writing.{Writing}
+use mathlib.Core.Path.{◌≡◌}
+use lib.Seq.{sets}
 use Rattle.same_reply.specs.Read.{numbers_at}
 use Rattle.same_reply.proofs.read.read_numbers.Given as goal
 
 abbrev pub invariant-loop-k : goal.invariant-loop-k
-invariant-loop-k l = Writing (numbers_at l.bytes l.i) 0 l.count l.initial.numbers l.numbers l.k
-
-abbrev pub decreases-loop-k : goal.decreases-loop-k
-decreases-loop-k l = l.count - l.k
+invariant-loop-k l = l.numbers ≡ sets l.initial.numbers 0 (numbers_at l.bytes l.i l.k)

@@ -1,18 +1,20 @@
 -- `put_differences` meets its contract. Assumes nothing.
+use Prim.Native.Nat.{◌+◌, ◌*◌}
 use native.Mathlib.Omega.{arith}
-use Rattle.same_reply.proofs.Entries.{difference_rows}
+use Rattle.packed.proofs.Digits.{most_decimal}
+use Rattle.packed.proofs.Lines.{most_three}
+use Rattle.packed.proofs.Writing.{room_left, writes_more}
+use Rattle.same_reply.specs.Same.{differences_text}
 use Rattle.same_reply.proofs.text.put_differences.Goals as goal
 
+pub decimal-requires : goal.decimal-requires
+decimal-requires c = room_left c.three.ensures 63 21 (most_three _ _ _) (omega arith)
+
+pub put_entries-requires-clause-room : goal.put_entries-requires-clause-room
+put_entries-requires-clause-room c =
+    let n = 42 * c.args.d.listed in
+    room_left c.decimal.ensures 21 n (most_decimal _ _) (room_left c.three.ensures 63 (21 + n) (most_three _ _ _) (omega arith))
+
 pub returns : goal.returns
-returns c =
-    let a = c.args in
-    let first = c.put_three-first in
-    let marks = c.marks_number in
-    let line = c.put_decimal-at in
-    let entries = c.put_entries in
-    let both = difference_rows a.d a.numbers.now a.fields.now a.out.now marks.ensures first.ensures.out_after first.ensures.value line.ensures.out_after line.ensures.value entries.ensures.out_after entries.ensures.value (omega arith) in
-    record {
-      prefix_len = both.0;
-      value = both.1.0;
-      out_after = both.1.1;
-    }
+unfolding differences_text
+returns c = rw (← c.marks_number.ensures) (writes_more (writes_more c.three.ensures c.decimal.ensures) c.put_entries.ensures)

@@ -1,17 +1,11 @@
 -- `put_entry` meets its contract. Assumes nothing.
 use native.Mathlib.Omega.{arith}
-use Rattle.packed.specs.Text.{◌then◌, decimal_of, space, line_end}
-use Rattle.packed.proofs.Lines.{next_row}
+use Rattle.packed.proofs.Digits.{most_decimal}
+use Rattle.packed.proofs.Writing.{room_left, writes_more}
 use Rattle.same_reply.proofs.text.put_entry.Goals as goal
 
+pub decimal-requires-2 : goal.decimal-requires-2
+decimal-requires-2 c = room_left c.decimal.ensures 21 21 (most_decimal _ _) (omega arith)
+
 pub returns : goal.returns
-returns c =
-    let a = c.args in
-    let d = c.put_decimal-there in
-    let e = c.put_decimal in
-    let h = next_row a.out.now a.at (decimal_of a.number then space) (decimal_of a.fields then line_end) d.ensures.out_after d.ensures.value e.ensures.out_after e.ensures.value in
-    record {
-      value = h.0;
-      upper_bound = omega arith;
-      out_after = h.1;
-    }
+returns c = writes_more c.decimal.ensures c.decimal-2.ensures

@@ -1,9 +1,0 @@
--- `main` ends. Assumes nothing.
-use Prim.Native.Nat.{◌-◌}
-use Rattle.rawpen.proofs.main.Given as goal
-
-abbrev pub invariant-loop-k : goal.invariant-loop-k
-invariant-loop-k l = Unit {0}
-
-abbrev pub decreases-loop-k : goal.decreases-loop-k
-decreases-loop-k l = 4097 - l.k

@@ -1,0 +1,12 @@
+-- `reply_pointed` meets its contract. Assumes nothing.
+use Rattle.packed.proofs.Writing.{whole}
+use Rattle.reply.proofs.reply_pointed.Goals as goal
+
+pub returns : goal.returns
+returns c =
+    let t = whole c.reply_by.ensures c.new-out.ensures.at c.new-out.ensures.bytes c.len.ensures in
+    record {
+      prefix_len = t.0;
+      value = t.1.0;
+      text_after = t.1.1;
+    }
