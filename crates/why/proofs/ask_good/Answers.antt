@@ -7,27 +7,13 @@ pub returns-then-settings : goal.returns-then-settings
 returns-then-settings c =
     copy-good _ _ _ _ c.if-settings.true (c.ask_copy.ensures ∙ rw (c.segment_count.ensures, c.requires.long))
 
-pub first_repeated-repeated-requires : goal.first_repeated-repeated-requires
-first_repeated-repeated-requires c = let pre = c.requires in
-    record {
-      le_v = pre.two;
-      v_bound = pre.most;
-      v_value = pre.long;
-    }
-
 pub returns-in-At : goal.returns-in-At
 returns-in-At c =
     repeated-good _ _ _ _ c.if-settings.false _ (sym c.first_repeated-repeated.ensures ∙ c.in-At.is)
 
-pub ask_closed-requires : goal.ask_closed-requires
-ask_closed-requires c = c.requires
-
 pub returns-then-closed : goal.returns-then-closed
 returns-then-closed c =
     rw c.if-closed.true (drawn-good _ _ _ _ c.if-settings.false (rw c.if-closed.true at (sym c.first_repeated-repeated.ensures ∙ c.in_default.is)) c.ask_closed.ensures)
-
-pub ask_open-requires : goal.ask_open-requires
-ask_open-requires c = c.requires
 
 pub returns : goal.returns
 returns c =
