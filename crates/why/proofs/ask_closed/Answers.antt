@@ -4,22 +4,10 @@ use native.Mathlib.Omega.{arith}
 use Rattle.why.proofs.Whole.{turns_added, none_added, ready-first, closed-asked}
 use Rattle.why.proofs.ask_closed.Goals as goal
 
-pub overflow_sub-v : goal.overflow_sub-v
-overflow_sub-v c = omega (arith, c.requires.two)
-
-pub vertex_at-requires : goal.vertex_at-requires
-vertex_at-requires c = let pre = c.requires in omega (arith, pre.long, pre.two)
-
 pub ask_turns-led-requires : goal.ask_turns-led-requires
 ask_turns-led-requires c =
     let pre = c.requires in
     record { long = pre.long; below = omega (arith, pre.two); ready = ready-first _ _ _ c.standing-first.result c.standing-first.ensures (omega arith) }
-
-pub next_place-next-requires : goal.next_place-next-requires
-next_place-next-requires c = omega (arith, c.requires.two)
-
-pub overflow_sub-v-2 : goal.overflow_sub-v-2
-overflow_sub-v-2 c = omega (arith, c.requires.two)
 
 pub ask_turns-asking-requires : goal.ask_turns-asking-requires
 ask_turns-asking-requires c =

@@ -6,11 +6,6 @@ use Rattle.why.specs.InnerSteps.{Noted}
 use Rattle.why.proofs.Steps.{note-number, notes_number, closing-asked}
 use Rattle.why.proofs.ask_closing.Goals as goal
 
-pub step-half-requires : goal.step-half-requires
-step-half-requires c =
-    let e = ap (λ (n : Noted). n.pen.number.0) c.note-before.ensures in
-    omega (arith, c.requires)
-
 pub tip-tipped-requires : goal.tip-tipped-requires
 tip-tipped-requires c =
     let e = ap (λ (n : Noted). n.pen.number.0) c.note-before.ensures in

@@ -1,19 +1,13 @@
 -- `why::ask_last` meets its contract. Assumes nothing.
 use mathlib.Core.Path.{refl, sym, ap, ◌∙◌}
-use native.Mathlib.Omega.{arith}
 use Rattle.floats.proofs.Choice.{yes, no}
 use Rattle.walk.specs.InnerSteps.{last_span}
-use Rattle.why.specs.InnerSteps.{Noted, finish_open, last_answer}
+use Rattle.why.specs.InnerSteps.{finish_open, last_answer}
 use Rattle.why.proofs.ask_last.Goals as goal
 
 pub returns-then-both : goal.returns-then-both
 unfolding last_answer
 returns-then-both c = yes _ _ _ (sym (c.both.ensures ∙ rw c.is_collapsed.ensures) ∙ c.if-both.true) refl
-
-pub step-requires : goal.step-requires
-step-requires c =
-    let e = ap (λ (n : Noted). n.pen.number.0) c.note-before.ensures in
-    omega (arith, c.requires)
 
 pub returns : goal.returns
 unfolding last_answer last_span

@@ -4,12 +4,6 @@ use native.Mathlib.Omega.{arith}
 use Rattle.why.proofs.Whole.{turns_added, none_added, ready-first, open_whole}
 use Rattle.why.proofs.ask_open.Goals as goal
 
-pub vertex_at-requires : goal.vertex_at-requires
-vertex_at-requires c = let pre = c.requires in omega (arith, pre.long, pre.two)
-
-pub overflow_sub-v : goal.overflow_sub-v
-overflow_sub-v c = omega (arith, c.requires.two)
-
 pub ask_turns-asking-requires : goal.ask_turns-asking-requires
 ask_turns-asking-requires c =
     let pre = c.requires in

@@ -12,18 +12,6 @@ overflow_add-from c =
     let pre = c.requires in
     omega (arith, length-vertices c.args.source.now, pre.long, pre.below, pre.ready.sources, c.loop-turn-test.true)
 
-pub vertex_at-next-requires : goal.vertex_at-next-requires
-vertex_at-next-requires c = omega (arith, c.loop-turn.invariant.below, c.requires.long)
-
-pub turn-asking-requires : goal.turn-asking-requires
-turn-asking-requires c =
-    let r = c.loop-turn.invariant.ready in
-    record {
-      source_bound = omega (arith, c.loop-turn-test.true, r.sources);
-      number_bound = omega (arith, c.loop-turn-test.true, r.outputs);
-      fit = r.fit;
-    }
-
 pub loop-turn-preserved : goal.loop-turn-preserved
 loop-turn-preserved c =
     let l = c.loop-turn in

@@ -18,9 +18,6 @@ unfolding end_piece
 returns-then-is_lone_collapsed c =
     (no _ _ _ (le-ltb _ _ c.if-self-lt2.false) (no _ _ _ c.if-settings.false (yes _ _ _ (sym c.is_lone_collapsed.ensures ∙ c.if-is_lone_collapsed.true) c.ending-then-is_lone_collapsed.ensures.0)), c.ending-then-is_lone_collapsed.ensures.1)
 
-pub last_span-requires : goal.last_span-requires
-last_span-requires c = (c.if-self-lt2.false, c.requires.0, c.requires.1)
-
 pub returns : goal.returns
 unfolding end_piece
 returns c =

@@ -5,9 +5,6 @@ use Rattle.sheet.proofs.Storing.{span_coded}
 use Rattle.course.proofs.Strokes.{last-span-is, pen-number, source-number, stepped_coded}
 use Rattle.course.proofs.Course.last_span.Goals as goal
 
-pub walk-walk-requires : goal.walk-walk-requires
-walk-walk-requires c = c.requires.0
-
 pub step-span-requires : goal.step-span-requires
 step-span-requires c =
     let e = pen-number _ _ c.walk-walk.result c.walk-walk.ensures.0 in

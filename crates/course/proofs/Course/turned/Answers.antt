@@ -5,9 +5,6 @@ use Rattle.course.specs.InnerSteps.{strokes_in}
 use Rattle.course.proofs.Strokes.{pen-number, source-number, vertex-held, stepped-number, stepped_coded, span-origin, connector-origin, turn-strokes, turn_left}
 use Rattle.course.proofs.Course.turned.Goals as goal
 
-pub walk-walk-requires : goal.walk-walk-requires
-walk-walk-requires c = c.requires.0
-
 pub turn-turned-requires : goal.turn-turned-requires
 turn-turned-requires c =
     let walk = c.walk-walk in
@@ -40,9 +37,6 @@ step-connector-requires c =
     let n = stepped-number _ _ _ c.step-span.result c.step-span.ensures in
     let m = row_number _ _ _ c.step_to_tip-tip.ensures.1 in
     omega (arith, able.taken, able.number, tip-one t.join t.connector)
-
-pub left_at-course-requires : goal.left_at-course-requires
-left_at-course-requires c = c.requires.1.taken
 
 pub returns : goal.returns
 unfolding strokes_in

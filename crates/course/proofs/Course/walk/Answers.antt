@@ -1,11 +1,7 @@
 -- `course::Course::walk` meets its contract. Assumes nothing.
-use native.Mathlib.Omega.{arith}
 use Rattle.joins.proofs.Seen.{seg_unseen}
 use Rattle.course.specs.InnerSteps.{stood_in}
 use Rattle.course.proofs.Course.walk.Goals as goal
-
-pub overflow_sub-result : goal.overflow_sub-result
-overflow_sub-result c = omega (arith, c.requires)
 
 pub returns : goal.returns
 unfolding stood_in

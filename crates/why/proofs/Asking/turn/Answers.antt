@@ -6,19 +6,6 @@ use Rattle.why.specs.InnerSteps.{Noted}
 use Rattle.why.proofs.Steps.{turn-asked, note-number, notes_number}
 use Rattle.why.proofs.Asking.turn.Goals as goal
 
-pub turn-turned-requires : goal.turn-turned-requires
-turn-turned-requires c = let pre = c.requires in
-    record {
-      source_bound = pre.source_bound;
-      fit = (pre.fit, c.are_pointed.ensures);
-      carries = c.anew-ahead.ensures;
-    }
-
-pub step-half-requires : goal.step-half-requires
-step-half-requires c =
-    let e = ap (λ (n : Noted). n.pen.number.0) c.note-before.ensures in
-    omega (arith, c.requires.number_bound)
-
 pub tip-tipped-requires : goal.tip-tipped-requires
 tip-tipped-requires c =
     let e = ap (λ (n : Noted). n.pen.number.0) c.note-before.ensures in

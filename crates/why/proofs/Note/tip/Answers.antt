@@ -9,9 +9,6 @@ unfolding notes_of
 returns-then-not-is_pointed c =
     rw (tip-none c.args.look.boundary c.args.connector (sym c.is_pointed.ensures ∙ c.if-not-is_pointed.true)) refl
 
-pub step-requires : goal.step-requires
-step-requires c = c.requires
-
 pub returns : goal.returns
 unfolding notes_of
 returns c =
