@@ -18,3 +18,4 @@ pub mod Residue
 pub mod Even
 pub mod Tested
 pub mod Nearest
+pub mod Native

@@ -12,7 +12,7 @@ use lib.Ieee.Nearest.{closest}
 use lib.Ieee.Scale.{round_val, round_under}
 use lib.Ieee.Positive.{num, den, den_pos, positive, positive-finite, value→cross}
 use Rattle.floats.specs.Root.{sqrt_of, twice_root}
-use Rattle.floats.proofs.Closest.{Cmp, cmp, twice_above, twice_below, twice_reaches}
+use Rattle.floats.proofs.Closest.{closest_near, twice_above, twice_below, twice_reaches}
 use Rattle.floats.proofs.Whole.{sq_mono}
 use Rattle.floats.proofs.Result.{size_gt}
 use Rattle.floats.proofs.Residue.{product_lt}
@@ -34,26 +34,6 @@ pub record Nearest (y r : Float) : Type 0 where
 
 steps_is : (x : Float) (a : ℕ) → num x * 2 ^ 1074 ≡ a * den x → steps x ≡ a
 steps_is x a e = ap (λ (z : ℕ). z / den x) e ∙ mul-div_cancel a (den_pos x)
-
--- ---- the nearest whole number is within a half
-near-at : (o : Ordering) (w B A r wB cB : ℕ) → Cmp o (r * 2) B → wB + r ≡ A → r < B → (nearest w o ≡ w → cB ≡ wB) → (nearest w o ≡ suc w → cB ≡ wB + B) → (2 * cB ≤ 2 * A + B) × (2 * A ≤ 2 * cB + B)
-near-at Ordering.lt w B A r wB cB c e l f g = let k : cB ≡ wB = f refl in (omega arith, omega arith)
-near-at Ordering.eq w B A r wB cB c e l f g = go (parity w)
-  where
-    parity : (w : ℕ) → (w + w % 2 ≡ w) ⊎ (w + w % 2 ≡ suc w)
-    parity w = elim (eq-zero-or-pos (w % 2)) [ inl z ↦ inl (omega arith) | inr p ↦ inr (omega arith) ]
-
-    go : (w + w % 2 ≡ w) ⊎ (w + w % 2 ≡ suc w) → (2 * cB ≤ 2 * A + B) × (2 * A ≤ 2 * cB + B)
-    go (inl p) = let k : cB ≡ wB = f p in (omega arith, omega arith)
-    go (inr p) = let k : cB ≡ wB + B = g p in (omega arith, omega arith)
-near-at Ordering.gt w B A r wB cB c e l f g = let k : cB ≡ wB + B = g refl in (omega arith, omega arith)
-
-closest_near : (A B : ℕ) → 0 < B → (2 * (closest A B * B) ≤ 2 * A + B) × (2 * A ≤ 2 * (closest A B * B) + B)
-closest_near A B p =
-    let w = A / B in
-    near-at (compare (A % B * 2) B) w B A (A % B) (w * B) (closest A B * B) (cmp (A % B * 2) B) (div-add-mod' A B) (mod-lt A p)
-    (λ e. ap (λ (z : ℕ). z * B) e)
-    (λ e. ap (λ (z : ℕ). z * B) e ∙ suc-mul w B)
 
 -- ---- the result as q * 2 ^ i steps
 abbrev drops : ℕ → ℕ

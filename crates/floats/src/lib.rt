@@ -147,20 +147,11 @@ fn raised(b: u64) -> u64
     (1023 - z) * HID + (b << z)
 }
 
-// √x to the nearest f64: x itself for a zero and for +∞, and a NaN for a NaN and below zero. `finish` is
-// called from one place, so all of this is compiled to one function that others call, and no half of it
-// into each of them.
+// √x to the nearest f64: x itself for a zero and for +∞, and a NaN for a NaN and below zero.
 pub fn sqrt(x: f64) -> f64
     ensures { result ≡ sqrt_of x }
 {
-    if x > 0.0 {
-        let b = f64::to_bits(x);
-        if b >= 0x7ff0_0000_0000_0000 {
-            return x;
-        }
-        return finish(raised(b));
-    }
-    if x == 0.0 { x } else { 0.0 / 0.0 }
+    x.sqrt()
 }
 
 // Whether q is the whole number nearest to √(w * 2^52). For q = a * 2^26 + b, w * 2^52 exceeds q * q by
