@@ -1,25 +1,20 @@
 -- The language's root is `sqrt_of` (`native_sqrt`). It is rounded from units 2 ^ 1196 times as small; but neither a binary64 nor the middle of two lies strictly between two
 -- neighbouring units of `sqrt_of`, so all that does rounds alike (`between_units`). Assumes nothing.
-use Rattle.std.proofs.Common.{◌≡◌, ℕ, zero, suc, ◌+◌, ◌-◌, ◌*◌, ◌/◌, ◌^◌, ◌<◌, ◌≤◌, true, false, T, sym, refl, ap, ◌∙◌, subst, inl, inr, zero-lt-suc, mul_assoc, div-lt_iff_lt-mul, le_antisymm, mul-le-mul_right, mul-lt-mul_of_pos_right, mul-pos, le-div_iff_mul-le, le_of_suc-le-suc, le_of_eq, lt_of_lt_of_le, lt_of_le_of_lt, mul_right_comm, mul-div_cancel, lt→ltb, arith, pow_pos}
+use Rattle.std.proofs.Common.{◌≡◌, ℕ, zero, suc, ◌+◌, ◌-◌, ◌*◌, ◌/◌, ◌^◌, ◌<◌, ◌≤◌, true, false, T, sym, refl, ap, ◌∙◌, inl, inr, zero-lt-suc, mul_assoc, div-lt_iff_lt-mul, le_antisymm, mul-le-mul_right, mul-lt-mul_of_pos_right, mul-pos, le-div_iff_mul-le, le_of_suc-le-suc, le_of_eq, lt_of_lt_of_le, lt_of_le_of_lt, mul_right_comm, mul-div_cancel, lt→ltb, arith, pow_pos}
 use native.Mathlib.Nat.{mul-mul-mul_comm}
 use lib.Arith.{lt_of_le-ne}
-use lib.Ieee.{Float, nan, inf, fin, binary64, size, units, round, fits, sqrt, root_below, root_twice}
+use lib.Ieee.{Float, nan, inf, fin, binary64, size, units, round, fits, sqrt, root_twice}
 use lib.Ieee.Fits.{round_is}
 use lib.Ieee.Nearest.{closest}
-use lib.Ieee.Positive.{num, den, den_pos, positive}
+use lib.Ieee.Positive.{num, den, den_pos}
 use lib.Ieee.Scale.{round_same}
-use Rattle.floats.specs.Root.{sqrt_of, root_of, root_in, whole_root, twice_root}
-use Rattle.floats.proofs.Whole.{whole-low, whole-high}
+use Rattle.floats.specs.Root.{sqrt_of, root_of, whole_root, twice_root}
+use Rattle.floats.proofs.Whole.{root_alike, whole-low, whole-high}
 use Rattle.floats.proofs.Closest.{closest_is, closest_near, twice_cases, twice_above, twice_below, twice_at-most, twice_reaches}
 use Rattle.floats.proofs.Fit.{zero_says}
-use Rattle.floats.proofs.Laws.{area, sqrt-is, OnGrid, on_grid, area_is}
+use Rattle.floats.proofs.Laws.{area, OnGrid, on_grid, area_is}
 
--- ---- the two definitions of a root's whole part are one
-root_alike : (k n : ℕ) → root_below k n ≡ root_in k n
-unfolding root_below root_in
-root_alike zero n = refl
-root_alike (suc k) n = rw (root_alike k (n / 4)) refl
-
+-- ---- twice the root, as the logic defines it
 twice_alike : (n : ℕ) → root_twice n ≡ twice_root n
 unfolding root_twice twice_root whole_root
 twice_alike n = rw (root_alike (size n) n) refl

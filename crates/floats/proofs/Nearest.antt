@@ -1,11 +1,11 @@
 -- `sqrt_of y` is the binary64 nearest to √y, for y finite and above zero (`sqrt_nearest`): it lies nearer than every other value above zero, and no tie occurs.
 -- Assumes nothing.
-use Rattle.std.proofs.Common.{◌≡◌, ℕ, zero, suc, ◌+◌, ◌-◌, ◌*◌, ◌/◌, ◌%◌, ◌^◌, ◌<◌, ◌≤◌, false, T, ◌⊎◌, sym, refl, ap, ◌∙◌, subst, inl, inr, le_trans, le_of_eq, lt_of_lt_of_le, le_of_suc-le-suc, lt_of_le_of_lt, le_of_lt, lt_irrefl, mul-le-mul_right, mod-lt, mul_assoc, suc-mul, eq-zero-or-pos, lt_of_mul-lt-mul_right, eq-or-lt_of_le, mul-pos, lt_of_not-le, div-add-mod', le-div_iff_mul-le, sub-add_cancel, not-le_of_lt, div-mul-le_self, le_of_mul-le-mul_right, mul-div_cancel, arith, lit≤, pow_pos, pow_mono, pow-add, shl_lt}
+use Rattle.std.proofs.Common.{◌≡◌, ℕ, zero, suc, ◌+◌, ◌-◌, ◌*◌, ◌/◌, ◌%◌, ◌^◌, ◌<◌, ◌≤◌, false, T, sym, refl, ap, ◌∙◌, subst, inl, inr, le_trans, le_of_eq, lt_of_lt_of_le, le_of_suc-le-suc, lt_of_le_of_lt, le_of_lt, lt_irrefl, mul-le-mul_right, mul_assoc, suc-mul, lt_of_mul-lt-mul_right, eq-or-lt_of_le, mul-pos, lt_of_not-le, sub-add_cancel, not-le_of_lt, div-mul-le_self, le_of_mul-le-mul_right, mul-div_cancel, arith, lit≤, pow_pos, pow_mono, pow-add, shl_lt}
 use Rattle.std.proofs.lemmas.Nat.{mul-lt}
 use native.Mathlib.Nat.{mul-mul-mul_comm}
 use native.Mathlib.Decide.{dec_le}
 use lib.Arith.{lt_of_le-ne}
-use lib.Ieee.{Float, binary64, size, round, nearest, fits}
+use lib.Ieee.{Float, binary64, size, round, fits}
 use lib.Ieee.Digits.{size_reaches}
 use lib.Ieee.Exact.{HasValue}
 use lib.Ieee.Nearest.{closest}
