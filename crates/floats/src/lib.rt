@@ -17,6 +17,7 @@ pub fn abs(x: f64) -> f64
 }
 
 // |a − b| < e
+#[tactic(auto, unfolding(crate::specs::Size::within))]
 pub fn fuzzy_eq_eps(a: f64, b: f64, e: f64) -> bool
     ensures { result ≡ within a b e }
 {
