@@ -1,5 +1,5 @@
 -- The language's root is `sqrt_of` (`native_sqrt`). It is rounded from units 2 ^ 1196 times as small; but neither a binary64 nor the middle of two lies strictly between two
--- neighbouring units of `sqrt_of`, so all that does rounds alike (`between_units`). Assumes nothing.
+-- neighbouring units of `sqrt_of`, so what lies there rounds alike (`between_units`). Assumes nothing.
 use Rattle.std.proofs.Common.{◌≡◌, ℕ, zero, suc, ◌+◌, ◌-◌, ◌*◌, ◌/◌, ◌^◌, ◌<◌, ◌≤◌, true, false, T, sym, refl, ap, ◌∙◌, inl, inr, zero-lt-suc, mul_assoc, div-lt_iff_lt-mul, le_antisymm, mul-le-mul_right, mul-lt-mul_of_pos_right, mul-pos, le-div_iff_mul-le, le_of_suc-le-suc, le_of_eq, lt_of_lt_of_le, lt_of_le_of_lt, mul_right_comm, mul-div_cancel, lt→ltb, arith, pow_pos}
 use native.Mathlib.Nat.{mul-mul-mul_comm}
 use lib.Arith.{lt_of_le-ne}
