@@ -15,7 +15,7 @@ pub fn number_of(bits: u64) -> f64
     ensures { result ≡ of_bits binary64 bits }
 {
     if bits % SIGN > INFINITY {
-        return 0.0 / 0.0;
+        return f64::NAN;
     }
     f64::from_bits(bits)
 }
@@ -24,7 +24,7 @@ pub fn number_of(bits: u64) -> f64
 pub fn bits_of(x: f64) -> u64
     ensures { result ≡ to_bits binary64 x }
 {
-    if x != x {
+    if x.is_nan() {
         return 0x7ff8_0000_0000_0000;
     }
     f64::to_bits(x)

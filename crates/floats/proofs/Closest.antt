@@ -1,5 +1,5 @@
 -- The nearest whole number to a fraction, from two strict bounds; and the fraction that stands for a square root, from bounds on the root. Assumes nothing.
-use Rattle.std.proofs.Common.{◌≡◌, ℕ, suc, ◌+◌, ◌*◌, ◌/◌, ◌%◌, ◌<◌, ◌≤◌, Bool, true, false, not, T, eqb, ◌⊎◌, sym, refl, subst, inl, inr, le_trans, le_refl, lt_of_lt_of_le, le_of_suc-le-suc, le_of_lt, lt_irrefl, mod-lt, suc-mul, le_antisymm, lt_of_mul-lt-mul_right, div-add-mod', arith, eqb→eq, leb→le}
+use Rattle.std.proofs.Common.{◌≡◌, ℕ, suc, ◌+◌, ◌*◌, ◌/◌, ◌%◌, ◌<◌, ◌≤◌, Bool, true, false, not, T, eqb, ◌⊎◌, sym, refl, ap, ◌∙◌, subst, inl, inr, le_trans, le_refl, lt_of_lt_of_le, le_of_suc-le-suc, le_of_lt, lt_irrefl, mod-lt, suc-mul, le_antisymm, lt_of_mul-lt-mul_right, div-add-mod', eq-zero-or-pos, arith, eqb→eq, leb→le}
 use Prim.Native.Nat.{compare, Ordering}
 use lib.Dec.{is_le, compare_is_eq, nleb→lt, eqb_refl}
 use lib.Arith.{lt_of_le-ne}
@@ -43,6 +43,26 @@ closest_is A B q p lo hi =
     (next w q B)
     (λ h. lt_of_mul-lt-mul_right B h)
     (λ h. next q (suc w) B (subst (λ (x : ℕ). q * B < x + B) (sym (suc-mul w B)) h))
+
+-- ---- the nearest whole number is within a half
+near-at : (o : Ordering) (w B A r wB cB : ℕ) → Cmp o (r * 2) B → wB + r ≡ A → r < B → (nearest w o ≡ w → cB ≡ wB) → (nearest w o ≡ suc w → cB ≡ wB + B) → (2 * cB ≤ 2 * A + B) × (2 * A ≤ 2 * cB + B)
+near-at Ordering.lt w B A r wB cB c e l f g = let k : cB ≡ wB = f refl in (omega arith, omega arith)
+near-at Ordering.eq w B A r wB cB c e l f g = go (parity w)
+  where
+    parity : (w : ℕ) → (w + w % 2 ≡ w) ⊎ (w + w % 2 ≡ suc w)
+    parity w = elim (eq-zero-or-pos (w % 2)) [ inl z ↦ inl (omega arith) | inr p ↦ inr (omega arith) ]
+
+    go : (w + w % 2 ≡ w) ⊎ (w + w % 2 ≡ suc w) → (2 * cB ≤ 2 * A + B) × (2 * A ≤ 2 * cB + B)
+    go (inl p) = let k : cB ≡ wB = f p in (omega arith, omega arith)
+    go (inr p) = let k : cB ≡ wB + B = g p in (omega arith, omega arith)
+near-at Ordering.gt w B A r wB cB c e l f g = let k : cB ≡ wB + B = g refl in (omega arith, omega arith)
+
+pub closest_near : (A B : ℕ) → 0 < B → (2 * (closest A B * B) ≤ 2 * A + B) × (2 * A ≤ 2 * (closest A B * B) + B)
+closest_near A B p =
+    let w = A / B in
+    near-at (compare (A % B * 2) B) w B A (A % B) (w * B) (closest A B * B) (cmp (A % B * 2) B) (div-add-mod' A B) (mod-lt A p)
+    (λ e. ap (λ (z : ℕ). z * B) e)
+    (λ e. ap (λ (z : ℕ). z * B) e ∙ suc-mul w B)
 
 -- ---- what `twice_root` is
 exact : (n : ℕ) → eqb (whole_root n * whole_root n) n ≡ true → twice_root n ≡ 2 * whole_root n

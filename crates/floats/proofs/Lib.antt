@@ -11,10 +11,5 @@ pub mod Signs
 pub mod Monotone
 pub mod Laws
 pub mod RootOrder
-pub mod Reading
-pub mod Result
-pub mod Digits
-pub mod Residue
-pub mod Even
-pub mod Tested
 pub mod Nearest
+pub mod Native

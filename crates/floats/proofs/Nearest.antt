@@ -1,21 +1,19 @@
 -- `sqrt_of y` is the binary64 nearest to √y, for y finite and above zero (`sqrt_nearest`): it lies nearer than every other value above zero, and no tie occurs.
 -- Assumes nothing.
-use Rattle.std.proofs.Common.{◌≡◌, ℕ, zero, suc, ◌+◌, ◌-◌, ◌*◌, ◌/◌, ◌%◌, ◌^◌, ◌<◌, ◌≤◌, false, T, ◌⊎◌, sym, refl, ap, ◌∙◌, subst, inl, inr, le_trans, le_of_eq, lt_of_lt_of_le, le_of_suc-le-suc, lt_of_le_of_lt, le_of_lt, lt_irrefl, mul-le-mul_right, mod-lt, mul_assoc, suc-mul, eq-zero-or-pos, lt_of_mul-lt-mul_right, eq-or-lt_of_le, mul-pos, lt_of_not-le, div-add-mod', le-div_iff_mul-le, sub-add_cancel, not-le_of_lt, div-mul-le_self, le_of_mul-le-mul_right, mul-div_cancel, arith, lit≤, pow_pos, pow_mono, pow-add, shl_lt}
-use Prim.Native.Nat.{compare, Ordering}
+use Rattle.std.proofs.Common.{◌≡◌, ℕ, zero, suc, ◌+◌, ◌-◌, ◌*◌, ◌/◌, ◌%◌, ◌^◌, ◌<◌, ◌≤◌, false, T, sym, refl, ap, ◌∙◌, subst, inl, inr, le_trans, le_of_eq, lt_of_lt_of_le, le_of_suc-le-suc, lt_of_le_of_lt, le_of_lt, lt_irrefl, mul-le-mul_right, mul_assoc, suc-mul, lt_of_mul-lt-mul_right, eq-or-lt_of_le, mul-pos, lt_of_not-le, sub-add_cancel, not-le_of_lt, div-mul-le_self, le_of_mul-le-mul_right, mul-div_cancel, arith, lit≤, pow_pos, pow_mono, pow-add, shl_lt}
+use Rattle.std.proofs.lemmas.Nat.{mul-lt}
 use native.Mathlib.Nat.{mul-mul-mul_comm}
 use native.Mathlib.Decide.{dec_le}
 use lib.Arith.{lt_of_le-ne}
-use lib.Ieee.{Float, binary64, size, round, nearest, fits}
+use lib.Ieee.{Float, binary64, size, round, fits}
 use lib.Ieee.Digits.{size_reaches}
 use lib.Ieee.Exact.{HasValue}
 use lib.Ieee.Nearest.{closest}
-use lib.Ieee.Scale.{round_val, round_under}
+use lib.Ieee.Scale.{round_val, round_under, normal_of_fraction}
 use lib.Ieee.Positive.{num, den, den_pos, positive, positive-finite, value→cross}
 use Rattle.floats.specs.Root.{sqrt_of, twice_root}
-use Rattle.floats.proofs.Closest.{Cmp, cmp, twice_above, twice_below, twice_reaches}
+use Rattle.floats.proofs.Closest.{closest_near, twice_above, twice_below, twice_reaches}
 use Rattle.floats.proofs.Whole.{sq_mono}
-use Rattle.floats.proofs.Result.{size_gt}
-use Rattle.floats.proofs.Residue.{product_lt}
 use Rattle.floats.proofs.Fit.{odd_part}
 use Rattle.floats.proofs.Laws.{area, sqrt-is, OnGrid, on_grid, area_is, area_low, sqrt_positive}
 
@@ -34,26 +32,6 @@ pub record Nearest (y r : Float) : Type 0 where
 
 steps_is : (x : Float) (a : ℕ) → num x * 2 ^ 1074 ≡ a * den x → steps x ≡ a
 steps_is x a e = ap (λ (z : ℕ). z / den x) e ∙ mul-div_cancel a (den_pos x)
-
--- ---- the nearest whole number is within a half
-near-at : (o : Ordering) (w B A r wB cB : ℕ) → Cmp o (r * 2) B → wB + r ≡ A → r < B → (nearest w o ≡ w → cB ≡ wB) → (nearest w o ≡ suc w → cB ≡ wB + B) → (2 * cB ≤ 2 * A + B) × (2 * A ≤ 2 * cB + B)
-near-at Ordering.lt w B A r wB cB c e l f g = let k : cB ≡ wB = f refl in (omega arith, omega arith)
-near-at Ordering.eq w B A r wB cB c e l f g = go (parity w)
-  where
-    parity : (w : ℕ) → (w + w % 2 ≡ w) ⊎ (w + w % 2 ≡ suc w)
-    parity w = elim (eq-zero-or-pos (w % 2)) [ inl z ↦ inl (omega arith) | inr p ↦ inr (omega arith) ]
-
-    go : (w + w % 2 ≡ w) ⊎ (w + w % 2 ≡ suc w) → (2 * cB ≤ 2 * A + B) × (2 * A ≤ 2 * cB + B)
-    go (inl p) = let k : cB ≡ wB = f p in (omega arith, omega arith)
-    go (inr p) = let k : cB ≡ wB + B = g p in (omega arith, omega arith)
-near-at Ordering.gt w B A r wB cB c e l f g = let k : cB ≡ wB + B = g refl in (omega arith, omega arith)
-
-closest_near : (A B : ℕ) → 0 < B → (2 * (closest A B * B) ≤ 2 * A + B) × (2 * A ≤ 2 * (closest A B * B) + B)
-closest_near A B p =
-    let w = A / B in
-    near-at (compare (A % B * 2) B) w B A (A % B) (w * B) (closest A B * B) (cmp (A % B * 2) B) (div-add-mod' A B) (mod-lt A p)
-    (λ e. ap (λ (z : ℕ). z * B) e)
-    (λ e. ap (λ (z : ℕ). z * B) e ∙ suc-mul w B)
 
 -- ---- the result as q * 2 ^ i steps
 abbrev drops : ℕ → ℕ
@@ -102,7 +80,7 @@ rounded x p f =
     let R-pos : T (positive R) = subst (λ (z : Float). T (positive z)) (sqrt-is x p) (sqrt_positive x p f) in
     let v : HasValue R false (q * 2 ^ i) (2 ^ 1074) = round_val binary64 a (2 ^ 1076) (round_under binary64 a (2 ^ 1076) (positive-finite R R-pos)) in
     let G-is : steps (sqrt_of x) ≡ q * 2 ^ i = ap steps (sqrt-is x p) ∙ steps_is R (q * 2 ^ i) (value→cross R (q * 2 ^ i) (2 ^ 1074) v) in
-    let big : 52 < size (A / 2 ^ 1076) = size_gt (A / 2 ^ 1076) 52 ((le-div_iff_mul-le (pow_pos 1076)).1 (enough a (twice_reaches n (2 ^ 538) (area_low x (on_grid x p f))))) in
+    let big : 52 < size (A / 2 ^ 1076) = normal_of_fraction binary64 a (2 ^ 1076) (pow_pos 1076) (enough a (twice_reaches n (2 ^ 538) (area_low x (on_grid x p f)))) in
     let sz : suc (52 + i) ≡ size (A / 2 ^ 1076) = cut (size (A / 2 ^ 1076)) big in
     let fd : 4 * (2 ^ 52 * 2 ^ i) ≤ a = first_of a i sz in
     let c = closest_near A (2 ^ 1076 * 2 ^ i) (mul-pos (pow_pos 1076) (pow_pos i)) in
@@ -241,7 +219,7 @@ nearer_below y z p f q k h = go (dec_le F Z)
 
     -- below the power of two that the root is
     under_first : Z < F → F ≡ G → (G + Z) * (G + Z) < area y
-    under_first l e = lt_of_lt_of_le (product_lt (less F G Z l e) (less F G Z l e)) (at_least (area y) (2 * F) (le_trans (le_of_eq (four F)) r.first))
+    under_first l e = lt_of_lt_of_le (mul-lt (G + Z) (G + Z) (2 * F) (2 * F) (less F G Z l e) (less F G Z l e)) (at_least (area y) (2 * F) (le_trans (le_of_eq (four F)) r.first))
       where
         less : (F G Z : ℕ) → Z < F → F ≡ G → G + Z < 2 * F
         less F G Z l e = omega arith
