@@ -17,9 +17,9 @@ use Rattle.segments.specs.declared.Settings.{Settings}
 use Rattle.segments.specs.declared.PlineVertex.{PlineVertex}
 use Rattle.source.specs.InnerSteps.{vertex_of}
 use Rattle.refusals.specs.declared.Refusal.{Refusal}
-use Rattle.refusals.specs.declared.Refusal.TheVariants.{Ragged, TooMany, BadNumber, NoRoom, Repeated, NotFinite, Malformed, NoSuchSegment, NoOpenJob, NoSuchSourceSegment}
 use Rattle.refusals.specs.Table.{number_of}
 use Rattle.refusals.specs.Limits.{good_vertex, repeats}
+use Rattle.refusals.proofs.Table.{some_number}
 use Rattle.moves.specs.declared.Stroke.{Stroke}
 use Rattle.moves.specs.Drawing.{Drawing, nothing, all_finite, move_end}
 use Rattle.moves.proofs.Kept.{length-kept}
@@ -45,19 +45,6 @@ few-taken false n k = refl
 pub soon_taken : (offset : Float) (w : Course) (c : PlineVertex) → early offset w c ≡ 0 → w.taken < 4096
 unfolding early
 soon_taken offset w c e = leb-false 4096 w.taken (few-taken _ _ e)
-
--- no refusal has the number 0
-pub some_number : (r : Refusal) → number_of r ≡ 0 → ⊥
-some_number Ragged e = omega arith
-some_number TooMany e = omega arith
-some_number (BadNumber k) e = omega arith
-some_number NoRoom e = omega arith
-some_number (Repeated k) e = omega arith
-some_number NotFinite e = omega arith
-some_number Malformed e = omega arith
-some_number NoSuchSegment e = omega arith
-some_number NoOpenJob e = omega arith
-some_number NoSuchSourceSegment e = omega arith
 
 module _ (σ : Settings) (w : Course) (c : PlineVertex) where
   abbrev soon : ℕ

@@ -1,3 +1,4 @@
+pub mod Table
 pub mod First
 pub mod Tests
 pub mod Joined

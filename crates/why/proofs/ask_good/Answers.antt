@@ -14,7 +14,6 @@ pub returns-in-Some : goal.returns-in-Some
 returns-in-Some c =
     repeated-good _ _ _ _ c.if-settings.false _ (sym c.first_repeated.ensures ∙ c.in-Some.is)
 
-
 pub returns-then-closed : goal.returns-then-closed
 returns-then-closed c =
     rw c.if-closed.true (drawn-good _ _ _ _ c.if-settings.false (rw c.if-closed.true at (sym c.first_repeated.ensures ∙ c.in_default.is)) c.ask_closed.ensures)
