@@ -1,7 +1,7 @@
--- `vectors::Vector2::scale` meets its contract. Assumes nothing.
+-- `mul` of `Vector2` meets its contract. Assumes nothing.
 use mathlib.Core.Path.{refl}
 use Rattle.vectors.specs.Plane.{◌⊡◌}
-use Rattle.vectors.proofs.Vector2.scale.Goals as goal
+use Rattle.vectors.proofs.Vector2MulF64.mul.Goals as goal
 
 pub returns : goal.returns
 unfolding ◌⊡◌

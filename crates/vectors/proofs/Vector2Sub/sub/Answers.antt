@@ -1,7 +1,7 @@
--- `vectors::Vector2::sub` meets its contract. Assumes nothing.
+-- `sub` of `Vector2` meets its contract. Assumes nothing.
 use mathlib.Core.Path.{refl}
 use Rattle.vectors.specs.Plane.{◌⊟◌}
-use Rattle.vectors.proofs.Vector2.sub.Goals as goal
+use Rattle.vectors.proofs.Vector2Sub.sub.Goals as goal
 
 pub returns : goal.returns
 unfolding ◌⊟◌
