@@ -34,10 +34,10 @@ fn keep_two(keys: &mut [u64; 16], sweeps: &mut [f64; 16], bulge: f64, next: f64)
     requires { Memo keys.old sweeps.old }
     ensures { (result ≡ sweep_of bulge) × Memo keys.new sweeps.new }
 {
-    let both = angles::two_sweeps(bulge, next);
-    keep(keys, sweeps, bulge, both.first);
-    keep(keys, sweeps, next, both.second);
-    both.first
+    let [first, second] = angles::sweeps([bulge, next]);
+    keep(keys, sweeps, bulge, first);
+    keep(keys, sweeps, next, second);
+    first
 }
 
 // The same with those of two more.
@@ -52,12 +52,12 @@ fn keep_four(
     requires { Memo keys.old sweeps.old }
     ensures { (result ≡ sweep_of bulge) × Memo keys.new sweeps.new }
 {
-    let all = angles::four_sweeps(bulge, next, third, fourth);
-    keep(keys, sweeps, bulge, all.first);
-    keep(keys, sweeps, fourth, all.fourth);
-    keep(keys, sweeps, third, all.third);
-    keep(keys, sweeps, next, all.second);
-    all.first
+    let [first, second, of_third, of_fourth] = angles::sweeps([bulge, next, third, fourth]);
+    keep(keys, sweeps, bulge, first);
+    keep(keys, sweeps, fourth, of_fourth);
+    keep(keys, sweeps, third, of_third);
+    keep(keys, sweeps, next, second);
+    first
 }
 
 // A bulge's sweep, where vertex k comes next. If neither it nor the next one's is kept, and two vertices
