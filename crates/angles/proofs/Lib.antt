@@ -1,6 +1,7 @@
+pub mod Halved
 pub mod Tables
-pub mod Walk
 pub mod Gentle
 pub mod Turned
 pub mod Steps
 pub mod Samples
+pub mod Mapped

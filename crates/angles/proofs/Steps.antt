@@ -1,13 +1,18 @@
 -- The code's steps make the rules' arc tangent and direction. Assumes nothing.
 use mathlib.Core.Path.{◌≡◌, refl, ap, ◌∙◌}
 use mathlib.Core.Bool.{Bool, true, false}
-use lib.Ieee.{Float, lt, le, eq}
-use Rattle.floats.specs.Binary64.{◌⊖◌, ◌⊘◌, zero, one}
+use mathlib.Core.List.{List}
+use Prim.Native.Nat.{ℕ, ◌<◌}
+use lib.Ieee.{Float, nan, lt, le, eq}
+use Rattle.std.specs.Prelude.{map}
+use Rattle.std.proofs.Math.ListN.{length, length-map, get_or}
+use Rattle.std.proofs.lemmas.List.{get_or-map}
+use Rattle.floats.specs.Binary64.{◌⊖◌, ◌⊗◌, ◌⊘◌, zero, one, four}
 use Rattle.floats.specs.Choice.{when◌give◌else◌, ◌and◌}
 use Rattle.floats.specs.Size.{abs_of}
 use Rattle.floats.proofs.Choice.{no}
-use Rattle.angles.specs.Angle.{halve, atan_by_eighth, atan_small, quarter_turn, atan_of, wide_angle, direction_of}
-use Rattle.angles.specs.InnerSteps.{reduced, restored, slope, direction_by}
+use Rattle.angles.specs.Angle.{halve, atan_by_eighth, atan_small, quarter_turn, atan_of, wide_angle, direction_of, sweep_of}
+use Rattle.angles.specs.InnerSteps.{reduced, restored, slope, direction_by, sweep_by}
 use Rattle.angles.proofs.Gentle.{gentle_slope}
 
 atan-by :
@@ -45,3 +50,18 @@ slope-small x y = no _ _ _ (gentle_slope x y) refl
 
 pub direction_small : (x y : Float) → direction_by x y (atan_small (slope x y)) ≡ direction_of x y
 direction_small x y = ap (direction_by x y) (slope-small x y) ∙ direction_steps x y
+
+pub sweep_steps : (b : Float) → sweep_by b (atan_small (reduced b)) ≡ sweep_of b
+unfolding sweep_of
+sweep_steps b = ap (λ (a : Float). four ⊗ a) (atan-restored b)
+
+-- the arc tangent at an index, of what s makes of the element there
+pub atan_at :
+    {A : Type 0} (s : A → Float) (xs : List A) {small atans : List Float} (d : A) (i : ℕ) →
+    small ≡ map s xs →
+    atans ≡ map atan_small small →
+    i < length xs →
+    get_or atans i nan ≡ atan_small (s (get_or xs i d))
+atan_at s xs d i p q within =
+    rw (q, p)
+    (get_or-map atan_small (map s xs) i nan nan (rw length-map within) ∙ ap atan_small (get_or-map s xs i d nan within))

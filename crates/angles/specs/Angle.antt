@@ -1,5 +1,6 @@
 -- atan, tan, the angle of a point, and bulge to sweep and back (01 §3, its last two lines). Products and quotients come before sums and differences, otherwise the left step comes first, and each step is rounded; `lt a b` is a < b, and `le a b` is a ≤ b. Definitions only.
 use Rattle.std.specs.Prelude.{List, [], ◌∷◌, Float}
+use Rattle.std.specs.List.{fold}
 use Rattle.std.specs.Float.Ieee.{neg, lt, le, eq}
 use Rattle.floats.specs.Binary64.{◌⊕◌, ◌⊖◌, ◌⊗◌, ◌⊘◌, zero, one, four, eight}
 use Rattle.floats.specs.Choice.{when◌give◌else◌, ◌and◌}
@@ -13,17 +14,11 @@ use Rattle.angles.specs.Tables.{pi, half_pi, two_pi, atan_table, sin_table, cos_
 unfoldable pub horner_step : Float → Float → Float → Float
 horner_step a c x = a ⊗ x ⊕ c
 
--- the steps over the coefficients still to come, from the value so far
-unfoldable pub horner_from : Float → List Float → Float → Float
-unfolding horner_step
-horner_from a [] x = a
-horner_from a (c ∷ cs) x = horner_from (horner_step a c x) cs x
-
--- a table's value at x: the highest coefficient is where the steps start (no table is empty)
+-- a table's value at x: the steps over all but the highest coefficient, where they start (no table is empty)
 unfoldable pub horner : List Float → Float → Float
-unfolding horner_from
+unfolding horner_step
 horner [] x = zero
-horner (c ∷ cs) x = horner_from c cs x
+horner (c ∷ cs) x = fold (λ (a d : Float). horner_step a d x) c cs
 
 -- x ← x/(1+√(1+x·x)): the tangent of half the angle whose tangent is x
 unfoldable pub halve : Float → Float

@@ -1,24 +1,17 @@
 -- The code's steps to an arc tangent and to an angle, without the halvings in between, so that those of several can be worked out by turns. No rule rests on these: the rules are
 -- `atan_of` and `direction_of`, and `proofs/Steps.antt` ties these to them. Definitions only.
-use Rattle.std.specs.Prelude.{Float}
-use Rattle.std.specs.Float.Ieee.{lt, le, eq}
-use Rattle.floats.specs.Binary64.{◌⊖◌, ◌⊘◌, zero, one}
+use Rattle.std.specs.Prelude.{List, map, slice_index_or, ℕ, Float}
+use Rattle.std.specs.Float.Ieee.{lt, le, eq, nan}
+use Rattle.floats.specs.Binary64.{◌⊖◌, ◌⊗◌, ◌⊘◌, zero, one, four}
 use Rattle.floats.specs.Choice.{when◌give◌else◌, ◌and◌}
 use Rattle.floats.specs.Size.{abs_of}
-use Rattle.angles.specs.declared.TwoAngles.{TwoAngles}
-use Rattle.angles.specs.declared.ThreeAngles.{ThreeAngles}
-use Rattle.angles.specs.declared.FourAngles.{FourAngles}
+use Rattle.vectors.specs.declared.Vector2.{Vector2}
+use Rattle.angles.specs.declared.Halving.{Halving}
 use Rattle.angles.specs.Angle.{quarter_turn, wide_angle}
 
--- angles side by side (`four` is no number here)
-abbrev pub pair : Float → Float → TwoAngles
-pair a b = record { first = a; second = b }
-
-abbrev pub three : Float → Float → Float → ThreeAngles
-three a b c = record { first = a; second = b; third = c }
-
-abbrev pub four : Float → Float → Float → Float → FourAngles
-four a b c d = record { first = a; second = b; third = c; fourth = d }
+-- the tangents that are on their way to be halved
+abbrev pub tangents : List Halving → List Float
+tangents hs = map (λ (h : Halving). h.x) hs
 
 -- the number whose atan `atan_of x` is found by
 unfoldable pub reduced : Float → Float
@@ -37,3 +30,13 @@ unfoldable pub direction_by : Float → Float → Float → Float
 direction_by x y a =
     when eq x zero and eq y zero give zero else
     when le (abs_of y) (abs_of x) give wide_angle x y a else quarter_turn y ⊖ a
+
+-- the same of the vector at i, from the arc tangents of all slopes
+abbrev pub direction_at : List Vector2 → List Float → ℕ → Float
+direction_at vectors atans i =
+    let v = slice_index_or vectors i (record { x = nan; y = nan }) in
+    direction_by v.x v.y (slice_index_or atans i nan)
+
+-- the sweep of a bulge, from the arc tangent of what it is reduced to
+abbrev pub sweep_by : Float → Float → Float
+sweep_by b a = four ⊗ restored b a

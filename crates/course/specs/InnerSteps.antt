@@ -1,6 +1,6 @@
 -- The steps of the code, by strokes: which strokes a vertex and the end draw, and the piece that strokes are. No rule rests on these: `proofs/Strokes.antt` ties them to the
 -- pieces of the rules. Definitions only.
-use Rattle.std.specs.Prelude.{◌≡◌, ℕ, ◌+◌, ◌*◌, ◌-◌, ◌≤◌, ◌<◌, List, [], ◌∷◌, ◌++◌, map, Bool, false, not, eqb, ltb, leb, Float, Option, Some, None, Result, Ok, Err}
+use Rattle.std.specs.Prelude.{◌≡◌, ℕ, ◌+◌, ◌*◌, ◌-◌, ◌≤◌, ◌<◌, List, [], ◌∷◌, ◌++◌, map, Bool, true, false, not, eqb, ltb, leb, Float, Option, Some, None, Result, Ok, Err}
 use Rattle.std.specs.Float.Ieee.{eq}
 use Rattle.std.specs.Option.{option_to_list}
 use Rattle.floats.specs.Binary64.{zero}
@@ -13,7 +13,6 @@ use Rattle.refusals.specs.declared.Refusal.{Refusal}
 use Rattle.refusals.specs.declared.Refusal.TheVariants.{TooMany, BadNumber, Repeated}
 use Rattle.refusals.specs.Table.{number_of}
 use Rattle.refusals.specs.Limits.{good_vertex, repeats}
-use Rattle.meetings.specs.declared.ArcRule.TheVariants.{NoRule}
 use Rattle.joins.specs.declared.JoinBoundary.{JoinBoundary}
 use Rattle.joins.specs.declared.JoinCause.TheVariants.{Coincident}
 use Rattle.moves.specs.declared.Pen.{Pen}
@@ -56,8 +55,8 @@ pen_in w = record { last = w.point; number = record { 0 = w.number } }
 abbrev pub entry_in : Course → JoinBoundary
 entry_in w = record {
   cause = Coincident;
-  current_rule = NoRule;
-  next_rule = NoRule;
+  current_rule = None;
+  next_rule = None;
   current_end = w.point;
   current_param = zero;
   next_start = w.point;

@@ -16,7 +16,6 @@ ghost use Rattle.course.specs.Course.{no_course, held, entered, turned, step_on,
 ghost use Rattle.course.specs.InnerSteps.{pen_in, entry_in, stood_in, vertices_by, copy_strokes, turn_strokes, step_strokes, strokes_in, Able, CodedAll, left_at, checked, early, ending_piece, just_ending};
 
 use joins::{JoinBoundary, JoinCause};
-use meetings::ArcRule;
 use moves::{Move, Origin, Pen, Reason, Stepped, Stroke};
 use refusals::{MOST_VERTICES, Refusal};
 use segments::{CarriedSeg, OutputSegment, PlineVertex, Settings, SourceSegment};
@@ -87,8 +86,8 @@ impl Course {
     {
         JoinBoundary {
             cause: JoinCause::Coincident,
-            current_rule: ArcRule::NoRule,
-            next_rule: ArcRule::NoRule,
+            current_rule: None,
+            next_rule: None,
             current_end: self.point,
             current_param: 0.0,
             next_start: self.point,

@@ -103,7 +103,7 @@ fn two(a: f64, b: f64) {
 fn vector(v: Vector2) {
     print(b"vector");
     print_vector(v);
-    print_vector(v.neg());
+    print_vector(-v);
     print_vector(v.perp());
     print_number(v.length_squared());
     print_number(v.length());
@@ -117,9 +117,9 @@ fn vectors_of(a: Vector2, b: Vector2) {
     print(b"vectors");
     print_vector(a);
     print_vector(b);
-    print_vector(a.add(b));
-    print_vector(a.sub(b));
-    print_vector(a.scale(b.x));
+    print_vector(a + b);
+    print_vector(a - b);
+    print_vector(a * b.x);
     print_number(a.dot(b));
     print_number(a.perp_dot(b));
     print_bool(a.fuzzy_eq_eps(b, 0.01));

@@ -3,7 +3,6 @@
 // its arguments. The stored output comes from 01's arithmetic in Rust (`oracle`, `samples`).
 #![tactic(auto)]
 
-use angles::{FourAngles, ThreeAngles, TwoAngles};
 use intersections::{CircleCircleIntr, LineCircleIntr, LineLineIntr};
 use vectors::Vector2;
 use words::{number, print, print_number, print_vector, vector, word};
@@ -130,34 +129,11 @@ fn intersection_row(function: u64, row: &[u8; 128]) {
     }
 }
 
-fn print_pair(name: &[u8], pair: TwoAngles) {
-    print_named(name, pair.first);
-    print_number(pair.second);
-}
-
-fn print_three(name: &[u8], three: ThreeAngles) {
-    print_named(name, three.first);
-    print_number(three.second);
-    print_number(three.third);
-}
-
-fn print_four(name: &[u8], four: FourAngles) {
-    print_named(name, four.first);
-    print_number(four.second);
-    print_number(four.third);
-    print_number(four.fourth);
-}
-
-fn two_directions(a: Vector2, b: Vector2) -> TwoAngles {
-    angles::two_directions(a.x, a.y, b.x, b.y)
-}
-
-fn three_directions(a: Vector2, b: Vector2, c: Vector2) -> ThreeAngles {
-    angles::three_directions(a.x, a.y, b.x, b.y, c.x, c.y)
-}
-
-fn four_directions(a: Vector2, b: Vector2, c: Vector2, d: Vector2) -> FourAngles {
-    angles::four_directions(a.x, a.y, b.x, b.y, c.x, c.y, d.x, d.y)
+fn print_together(name: &[u8], angles: &[f64]) {
+    print(name);
+    for angle in angles {
+        print_number(*angle);
+    }
 }
 
 // Directions and sweeps that are worked out side by side.
@@ -168,11 +144,11 @@ fn together_row(function: u64, row: &[u8; 128]) {
     let d = vector(row, 7);
     match function {
         12 => print_named(b"direction_of", angles::direction_of(a.x, a.y)),
-        13 => print_pair(b"two_directions", two_directions(a, b)),
-        14 => print_three(b"three_directions", three_directions(a, b, c)),
-        15 => print_four(b"four_directions", four_directions(a, b, c, d)),
-        16 => print_pair(b"two_sweeps", angles::two_sweeps(a.x, a.y)),
-        _ => print_four(b"four_sweeps", angles::four_sweeps(a.x, a.y, b.x, b.y)),
+        13 => print_together(b"two_directions", &angles::directions([a, b])),
+        14 => print_together(b"three_directions", &angles::directions([a, b, c])),
+        15 => print_together(b"four_directions", &angles::directions([a, b, c, d])),
+        16 => print_together(b"two_sweeps", &angles::sweeps([a.x, a.y])),
+        _ => print_together(b"four_sweeps", &angles::sweeps([a.x, a.y, b.x, b.y])),
     }
 }
 

@@ -1,5 +1,5 @@
 -- Where two lines meet (01 §3, Lines). Definitions only.
-use Rattle.std.specs.Prelude.{Bool, Float}
+use Rattle.std.specs.Prelude.{Bool, Option, None, Some, Float}
 use Rattle.std.specs.Float.Ieee.{neg, lt, le}
 use Rattle.floats.specs.Binary64.{◌⊕◌, ◌⊘◌, zero, one}
 use Rattle.floats.specs.Choice.{when◌give◌else◌, ◌and◌, ◌or◌}
@@ -7,8 +7,6 @@ use Rattle.floats.specs.Size.{abs_of}
 use Rattle.vectors.specs.Plane.{◌⊟◌, dot, cross}
 use Rattle.vectors.specs.declared.Vector2.{Vector2}
 use Rattle.intersections.specs.declared.LineLineIntr.{LineLineIntr}
-use Rattle.intersections.specs.declared.ProlongedIntr.{ProlongedIntr}
-use Rattle.intersections.specs.declared.ProlongedIntr.TheVariants as Prolonged
 use Rattle.intersections.specs.declared.LineLineIntr.TheVariants.{NoIntersect, TrueIntersect, FalseIntersect, Overlapping}
 
 -- a parameter strictly between −ε and 1 + ε
@@ -31,8 +29,8 @@ line_line p p' q q' ε =
     when lt (abs_of (cross v w)) ε and lt (abs_of (cross u w)) ε and ((le a one or le b one) and (le zero a or le zero b)) give Overlapping else NoIntersect
 
 -- both lines prolonged: wherever |D| is not under ε they meet, at the parameter t of the first, whether or not they reach the point
-abbrev pub prolonged : LineLineIntr → ProlongedIntr
-prolonged NoIntersect = Prolonged.NoIntersect
-prolonged (TrueIntersect t s) = Prolonged.At t
-prolonged (FalseIntersect t s) = Prolonged.At t
-prolonged Overlapping = Prolonged.NoIntersect
+abbrev pub prolonged : LineLineIntr → Option Float
+prolonged NoIntersect = None
+prolonged (TrueIntersect t s) = Some t
+prolonged (FalseIntersect t s) = Some t
+prolonged Overlapping = None

@@ -4,12 +4,11 @@
 use mathlib.Core.Path.{◌≡◌, refl, sym, ap, ◌∙◌}
 use mathlib.Core.Bool.{Bool, true, false, false≢true}
 use lib.Ieee.{Float}
+use Rattle.std.specs.Prelude.{Result, Ok, Err, Option, Some, None}
 use Rattle.floats.specs.Choice.{when◌give◌else◌}
 use Rattle.floats.proofs.Choice.{yes, no}
 use Rattle.vectors.specs.Plane.{near}
 use Rattle.vectors.specs.declared.Vector2.{Vector2}
-use Rattle.intersections.specs.declared.ProlongedIntr.{ProlongedIntr}
-use Rattle.intersections.specs.declared.ProlongedIntr.TheVariants.{NoIntersect, At}
 use Rattle.intersections.specs.Lines.{line_line, prolonged}
 use Rattle.intersections.specs.Points.{point_at}
 use Rattle.segments.specs.declared.Corners.{Corners}
@@ -19,7 +18,9 @@ use Rattle.segments.specs.declared.RawOffsetLine.{RawOffsetLine}
 use Rattle.segments.specs.declared.RawOffsetSeg.{RawOffsetSeg}
 use Rattle.segments.specs.declared.RawOffsetSeg.TheVariants.{Line, Arc, Collapsed}
 use Rattle.segments.specs.Modes.{are_pointed}
-use Rattle.meetings.specs.declared.Met.{Met}
+use Rattle.meetings.specs.declared.Meeting.{Meeting}
+use Rattle.meetings.specs.declared.Miss.{Miss}
+use Rattle.meetings.specs.declared.Miss.TheVariants.{NoMeeting, CandidatesMissed}
 use Rattle.meetings.specs.Meetings.{line_line_meeting, line_arc_meeting, arc_line_meeting, arc_arc_meeting}
 use Rattle.joins.specs.declared.JoinCause.{JoinCause}
 use Rattle.joins.specs.declared.JoinCause.TheVariants as Cause
@@ -62,10 +63,10 @@ unfolding cornered
 mode-is g h shared σ j e = ap (λ (c : Corners). cornered_by c g h shared σ j) e
 
 module _ (shared : Vector2) (σ : Settings) (j : JoinBoundary) (ratio : Float) (m : σ.corners ≡ Pointed ratio) (o : j.cause ≡ Cause.OuterTurn) where
-  by-made : (a b : RawOffsetLine) (x : ProlongedIntr) → prolonged (line_line a.start a.end b.start b.end σ.eps) ≡ x
+  by-made : (a b : RawOffsetLine) (x : Option Float) → prolonged (line_line a.start a.end b.start b.end σ.eps) ≡ x
       → cornered (Line a) (Line b) shared σ j ≡ corner_by x a shared ratio σ j → Cornered (Line a) (Line b) shared σ j
-  by-made a b NoIntersect e r = same r
-  by-made a b (At t) e r = by (within_ratio ratio σ.offset shared p) refl
+  by-made a b None e r = same r
+  by-made a b (Some t) e r = by (within_ratio ratio σ.offset shared p) refl
     where
       p : Vector2
       p = point_at a.start a.end t
@@ -100,7 +101,7 @@ module _ (g h : RawOffsetSeg) (shared : Vector2) (σ : Settings) (j : JoinBounda
   sharp_made s o =
       mode-is g h shared σ j s.mode ∙ taken _ _ _ (ap is_outer_turn o)
       ∙ ap (λ (x : RawOffsetSeg). corner_of x h shared s.ratio σ j) s.lines.0 ∙ ap (λ (x : RawOffsetSeg). corner_of (Line s.first) x shared s.ratio σ j) s.lines.1
-      ∙ ap (λ (x : ProlongedIntr). corner_by x s.first shared s.ratio σ j) s.meet ∙ taken _ _ _ s.near
+      ∙ ap (λ (x : Option Float). corner_by x s.first shared s.ratio σ j) s.meet ∙ taken _ _ _ s.near
 
   -- and not where the boundary stays as it is
   pub never_both : cornered g h shared σ j ≡ j → j.cause ≡ Cause.OuterTurn → Sharp g h shared σ → ⊥
@@ -183,11 +184,11 @@ unfolding when◌give◌else◌
 over f true x y = refl
 over f false x y = refl
 
-by_forgets : (m : ProlongedIntr) (a : RawOffsetLine) (shared : Vector2) (ratio : Float) (σ : Settings) (j : JoinBoundary)
+by_forgets : (m : Option Float) (a : RawOffsetLine) (shared : Vector2) (ratio : Float) (σ : Settings) (j : JoinBoundary)
     → forgotten (corner_by m a shared ratio σ j) ≡ corner_by m a shared ratio σ (forgotten j)
 unfolding pointed_if
-by_forgets NoIntersect a shared ratio σ j = refl
-by_forgets (At t) a shared ratio σ j = over forgotten _ _ _
+by_forgets None a shared ratio σ j = refl
+by_forgets (Some t) a shared ratio σ j = over forgotten _ _ _
 
 of_forgets : (g h : RawOffsetSeg) (shared : Vector2) (ratio : Float) (σ : Settings) (j : JoinBoundary)
     → forgotten (corner_of g h shared ratio σ j) ≡ corner_of g h shared ratio σ (forgotten j)
@@ -219,10 +220,10 @@ corner_edges g h shared σ = by (corner-made g h shared σ (ruled_join g h share
     by (sharp s o e) = unfold ruled_boundary in rw (e, o) (record { ends = (refl, refl); starts = (refl, refl) })
 
 -- ---- a boundary whose cause is an outer turn is one's
-inner_not : (met : Met) (a b : Vector2) → is_outer_turn (trimmed_by met a b).cause ≡ false
-inner_not (Met.At m) a b = refl
-inner_not Met.NoMeeting a b = refl
-inner_not Met.CandidatesMissed a b = refl
+inner_not : (met : Result Meeting Miss) (a b : Vector2) → is_outer_turn (trimmed_by met a b).cause ≡ false
+inner_not (Ok m) a b = refl
+inner_not (Err NoMeeting) a b = refl
+inner_not (Err CandidatesMissed) a b = refl
 
 inner_join-not : (g h : RawOffsetSeg) (shared : Vector2) (ε : Float) → is_outer_turn (inner_join g h shared ε).cause ≡ false
 inner_join-not (Line a) (Line b) shared ε = inner_not (line_line_meeting a b ε) _ _

@@ -4,6 +4,7 @@
 use mathlib.Core.Path.{◌≡◌, refl, sym, ◌∙◌}
 use mathlib.Core.Bool.{Bool, true, false, false≢true}
 use lib.Ieee.{Float, of_bits, lt, le}
+use Rattle.std.specs.Prelude.{Result, Ok, Err}
 use Rattle.floats.specs.Binary64.{zero}
 use Rattle.floats.specs.Choice.{when◌give◌else◌, ◌or◌}
 use Rattle.floats.specs.Size.{abs_of}
@@ -13,8 +14,9 @@ use Rattle.segments.specs.declared.RawOffsetSeg.{RawOffsetSeg}
 use Rattle.segments.specs.declared.Settings.{Settings}
 use Rattle.segments.specs.declared.RawOffsetSeg.TheVariants.{Line, Arc, Collapsed}
 use Rattle.segments.specs.Segment.{start_of, end_of, is_collapsed}
-use Rattle.meetings.specs.declared.Met.{Met}
-use Rattle.meetings.specs.declared.Met.TheVariants.{At, NoMeeting, CandidatesMissed}
+use Rattle.meetings.specs.declared.Meeting.{Meeting}
+use Rattle.meetings.specs.declared.Miss.{Miss}
+use Rattle.meetings.specs.declared.Miss.TheVariants.{NoMeeting, CandidatesMissed}
 use Rattle.meetings.specs.Meetings.{line_line_meeting, line_arc_meeting, arc_line_meeting, arc_arc_meeting}
 use Rattle.joins.specs.declared.JoinClass.{JoinClass}
 use Rattle.joins.specs.declared.JoinClass.TheVariants as Class
@@ -56,10 +58,10 @@ pub data Made (a b shared : Vector2) (offset : Float) : JoinBoundary → Type 0 
   reversal : Made a b shared offset (rounded Cause.Reversal a b shared offset)
   gap : (c : JoinCause) → is_gap (class_of c) ≡ true → Made a b shared offset (straight c a b)
 
-met-made : (met : Met) (a b shared : Vector2) (offset : Float) → Made a b shared offset (trimmed_by met a b)
-met-made (At m) a b shared offset = cut m.point m.current_param m.next_param
-met-made NoMeeting a b shared offset = gap Cause.NoMeeting refl
-met-made CandidatesMissed a b shared offset = gap Cause.CandidatesMissed refl
+met-made : (met : Result Meeting Miss) (a b shared : Vector2) (offset : Float) → Made a b shared offset (trimmed_by met a b)
+met-made (Ok m) a b shared offset = cut m.point m.current_param m.next_param
+met-made (Err NoMeeting) a b shared offset = gap Cause.NoMeeting refl
+met-made (Err CandidatesMissed) a b shared offset = gap Cause.CandidatesMissed refl
 
 inner_made : (current next : RawOffsetSeg) (shared : Vector2) (σ : Settings) → Made (end_of current) (start_of next) shared σ.offset (inner_join current next shared σ.eps)
 inner_made (Line a) (Line b) shared σ = met-made (line_line_meeting a b σ.eps) a.end b.start shared σ.offset

@@ -3,23 +3,24 @@
 use mathlib.Core.Path.{◌≡◌, refl}
 use mathlib.Core.List.{List, [], ◌∷◌, map}
 use lib.Ieee.{Float, binary64, of_bits, neg}
+use Rattle.std.specs.Prelude.{Option, None, Some}
 use Rattle.floats.specs.Binary64.{zero, two, four}
 use Rattle.vectors.specs.declared.Vector2.{Vector2}
 use Rattle.angles.specs.Angle.{quarter_turn}
 use Rattle.segments.specs.declared.RawOffsetSeg.{RawOffsetSeg}
 use Rattle.segments.specs.declared.RawOffsetSeg.TheVariants.{Line, Arc}
 use Rattle.meetings.specs.declared.ArcRule.{ArcRule}
-use Rattle.meetings.specs.declared.ArcRule.TheVariants.{NoRule, StartMatched, EndMatched, Inside, PastEnd}
+use Rattle.meetings.specs.declared.ArcRule.TheVariants.{StartMatched, EndMatched, Inside, PastEnd}
 use Rattle.meetings.proofs.Samples.{opened, at, −two, −four, π, half_π, ε}
 use Rattle.joins.specs.Join.{inner_join}
 use Rattle.joins.specs.Rules.{ruled_boundary}
 
 -- a segment, with the rule by which it lets (0, 2) in
 abbrev Side : Type 0
-Side = RawOffsetSeg × ArcRule
+Side = RawOffsetSeg × Option ArcRule
 
 abbrev line : Side
-line = (Line (record { start = at −four two; end = at four two }), NoRule)
+line = (Line (record { start = at −four two; end = at four two }), None)
 
 -- about the origin, where (0, 2) lies at a quarter turn
 abbrev below : Vector2 → Vector2 → Float → Float → RawOffsetSeg
@@ -31,35 +32,35 @@ above a b φ sweep = Arc (record { start = a; end = b; center = at zero four; ra
 
 -- an end there, or run to there exactly, or one unit short of it
 abbrev starting : Side
-starting = (below (at zero two) (at −two zero) half_π half_π, StartMatched)
+starting = (below (at zero two) (at −two zero) half_π half_π, Some StartMatched)
 
 abbrev ending : Side
-ending = (below (at two zero) (at zero two) zero half_π, EndMatched)
+ending = (below (at two zero) (at zero two) zero half_π, Some EndMatched)
 
 abbrev reaching : Side
-reaching = (below (at two zero) (at −two zero) zero half_π, Inside)
+reaching = (below (at two zero) (at −two zero) zero half_π, Some Inside)
 
 abbrev short : Side
-short = (below (at two zero) (at −two zero) zero (of_bits binary64 0x3ff9_21fb_5444_2d17), PastEnd)
+short = (below (at two zero) (at −two zero) zero (of_bits binary64 0x3ff9_21fb_5444_2d17), Some PastEnd)
 
 -- these four, both ends there, and nothing run as yet
 abbrev lower : List Side
 lower =
     starting ∷ ending ∷ reaching ∷ short ∷
-    (below (at zero two) (at zero two) half_π (of_bits binary64 0x4018_0000_0000_0000), StartMatched) ∷
-    (below (at two zero) (at −two zero) half_π half_π, Inside) ∷
+    (below (at zero two) (at zero two) half_π (of_bits binary64 0x4018_0000_0000_0000), Some StartMatched) ∷
+    (below (at two zero) (at −two zero) half_π half_π, Some Inside) ∷
     []
 
 abbrev upper : List Side
 upper =
-    (above (at zero two) (at two four) (neg half_π) half_π, StartMatched) ∷
-    (above (at −two four) (at zero two) (neg π) half_π, EndMatched) ∷
-    (above (at −two four) (at two four) (neg π) half_π, Inside) ∷
-    (above (at −two four) (at two four) (neg π) (of_bits binary64 0x3ff9_21fb_5444_2d17), PastEnd) ∷
+    (above (at zero two) (at two four) (neg half_π) half_π, Some StartMatched) ∷
+    (above (at −two four) (at zero two) (neg π) half_π, Some EndMatched) ∷
+    (above (at −two four) (at two four) (neg π) half_π, Some Inside) ∷
+    (above (at −two four) (at two four) (neg π) (of_bits binary64 0x3ff9_21fb_5444_2d17), Some PastEnd) ∷
     []
 
 -- the rules that their join tells, where they do meet
-abbrev rules : Side → Side → ArcRule × ArcRule
+abbrev rules : Side → Side → Option ArcRule × Option ArcRule
 rules g h = let j = ruled_boundary g.0 h.0 ε (inner_join g.0 h.0 (at zero two) ε) in (j.current_rule, j.next_rule)
 
 abbrev Tells : Side → List Side → Type 0

@@ -3,17 +3,17 @@
 use mathlib.Core.Path.{◌≡◌, refl}
 use mathlib.Core.Bool.{false≢true}
 use lib.Ieee.{Float}
+use Rattle.std.specs.Prelude.{Result, Ok, Err, None, Option, Some}
 use Rattle.vectors.specs.declared.Vector2.{Vector2}
 use Rattle.segments.specs.declared.RawOffsetLine.{RawOffsetLine}
 use Rattle.segments.specs.declared.RawOffsetArc.{RawOffsetArc}
 use Rattle.segments.specs.declared.RawOffsetSeg.{RawOffsetSeg}
 use Rattle.segments.specs.declared.RawOffsetSeg.TheVariants.{Line, Arc, Collapsed}
 use Rattle.segments.specs.declared.Settings.{Settings}
-use Rattle.meetings.specs.declared.Met.{Met}
-use Rattle.meetings.specs.declared.Met.TheVariants.{At, NoMeeting, CandidatesMissed}
-use Rattle.meetings.specs.declared.Param.TheVariants.{Usable}
+use Rattle.meetings.specs.declared.Meeting.{Meeting}
+use Rattle.meetings.specs.declared.Miss.{Miss}
+use Rattle.meetings.specs.declared.Miss.TheVariants.{NoMeeting, CandidatesMissed}
 use Rattle.meetings.specs.declared.ArcRule.{ArcRule}
-use Rattle.meetings.specs.declared.ArcRule.TheVariants.{NoRule}
 use Rattle.meetings.specs.Meetings.{line_line_meeting, line_arc_meeting, arc_line_meeting, arc_arc_meeting}
 use Rattle.meetings.specs.Rules.{rule_at, ruled}
 use Rattle.meetings.proofs.Rules.{rule↔, grants, Granted, MetGranted, line-arc_granted, arc-line_granted, arc-arc_granted}
@@ -42,11 +42,11 @@ unfolding ruled_boundary
 forgets current next shared σ = made_untold (made current next shared σ)
 
 -- ---- on the way to a boundary: a meeting hands its rules on, and what is settled without one has none
-pub ruled_cut : (g h : RawOffsetSeg) (ε : Float) (m : Met) (a b : Vector2) → cut_by (ruled g h ε m) a b ≡ ruled_boundary g h ε (trimmed_by m a b)
+pub ruled_cut : (g h : RawOffsetSeg) (ε : Float) (m : Result Meeting Miss) (a b : Vector2) → cut_by (ruled g h ε m) a b ≡ ruled_boundary g h ε (trimmed_by m a b)
 unfolding ruled ruled_boundary
-ruled_cut g h ε (At m) a b = refl
-ruled_cut g h ε NoMeeting a b = refl
-ruled_cut g h ε CandidatesMissed a b = refl
+ruled_cut g h ε (Ok m) a b = refl
+ruled_cut g h ε (Err NoMeeting) a b = refl
+ruled_cut g h ε (Err CandidatesMissed) a b = refl
 
 pub settled_ruled : (turn : JoinTurn) (current next g h : RawOffsetSeg) (shared : Vector2) (σ : Settings) (ε : Float) (inner : JoinBoundary)
     → ruled_boundary g h ε (or_else_join (settled_by turn current next shared σ) inner) ≡ or_else_join (settled_by turn current next shared σ) (ruled_boundary g h ε inner)
@@ -59,14 +59,14 @@ settled_ruled Outer current next g h shared σ ε inner = refl
 settled_ruled Inner current next g h shared σ ε inner = refl
 
 -- ---- what the rules say
-arc_says : (a : RawOffsetArc) (p : Vector2) (ε t : Float) → Granted (Arc a) p ε (Usable t) → Says (Arc a) (rule_at (Arc a) p ε) p t ε
+arc_says : (a : RawOffsetArc) (p : Vector2) (ε t : Float) → Granted (Arc a) p ε (Some t) → Says (Arc a) (rule_at (Arc a) p ε) p t ε
 arc_says a p ε t h = ((rule↔ a p ε (rule_at (Arc a) p ε)).0 refl, grants a p ε t h)
 
 -- a side that lets in what it grants
 abbrev Sayable : RawOffsetSeg → Float → Type 0
-Sayable g ε = (p : Vector2) (t : Float) → Granted g p ε (Usable t) → Says g (rule_at g p ε) p t ε
+Sayable g ε = (p : Vector2) (t : Float) → Granted g p ε (Some t) → Says g (rule_at g p ε) p t ε
 
-unmet : (c : JoinCause) (r : ArcRule) → (c ≡ Cause.Met → ⊥) → of_meeting c r ≡ NoRule
+unmet : (c : JoinCause) (r : Option ArcRule) → (c ≡ Cause.Met → ⊥) → of_meeting c r ≡ None
 unmet Cause.Coincident r n = refl
 unmet Cause.Met r n = absurd (n refl)
 unmet Cause.OuterTurn r n = refl
@@ -84,15 +84,15 @@ module _ (g h : RawOffsetSeg) (ε : Float) where
   unfolding ruled_boundary
   none_said j n = record { ends = λ e. absurd (n e); starts = λ e. absurd (n e); unmet = λ m. (unmet j.cause _ m, unmet j.cause _ m) }
 
-  met-said : Sayable g ε → Sayable h ε → (m : Met) (a b : Vector2) → MetGranted g h ε m → Said g h ε (ruled_boundary g h ε (trimmed_by m a b))
-  met-said s t (At m) a b q = unfold ruled_boundary in record { ends = λ e. s _ _ q.0; starts = λ e. t _ _ q.1; unmet = λ n. absurd (n refl) }
-  met-said s t NoMeeting a b q = none_said _ (λ e. false≢true (cc))
-  met-said s t CandidatesMissed a b q = none_said _ (λ e. false≢true (cc))
+  met-said : Sayable g ε → Sayable h ε → (m : Result Meeting Miss) (a b : Vector2) → MetGranted g h ε m → Said g h ε (ruled_boundary g h ε (trimmed_by m a b))
+  met-said s t (Ok m) a b q = unfold ruled_boundary in record { ends = λ e. s _ _ q.0; starts = λ e. t _ _ q.1; unmet = λ n. absurd (n refl) }
+  met-said s t (Err NoMeeting) a b q = none_said _ (λ e. false≢true (cc))
+  met-said s t (Err CandidatesMissed) a b q = none_said _ (λ e. false≢true (cc))
 
-lines_granted : (a b : RawOffsetLine) (ε : Float) (m : Met) → MetGranted (Line a) (Line b) ε m
-lines_granted a b ε (At m) = (tt, tt)
-lines_granted a b ε NoMeeting = tt
-lines_granted a b ε CandidatesMissed = tt
+lines_granted : (a b : RawOffsetLine) (ε : Float) (m : Result Meeting Miss) → MetGranted (Line a) (Line b) ε m
+lines_granted a b ε (Ok m) = (tt, tt)
+lines_granted a b ε (Err NoMeeting) = tt
+lines_granted a b ε (Err CandidatesMissed) = tt
 
 module _ (shared : Vector2) (ε : Float) where
   inner_said : (current next : RawOffsetSeg) → Said current next ε (ruled_boundary current next ε (inner_join current next shared ε))

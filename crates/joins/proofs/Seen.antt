@@ -1,6 +1,7 @@
 -- What a join has seen of a start angle changes nothing: the arc with it is the rules' arc, and only an inner join looks at it. Assumes nothing.
 use mathlib.Core.Path.{◌≡◌, refl, ap, ◌∙◌}
 use lib.Ieee.{Float, of_bits, div, eq}
+use Rattle.std.specs.Prelude.{Result}
 use Rattle.floats.specs.Choice.{when◌give◌else◌}
 use Rattle.vectors.specs.declared.Vector2.{Vector2}
 use Rattle.segments.specs.declared.RawOffsetArc.{RawOffsetArc}
@@ -12,7 +13,8 @@ use Rattle.segments.specs.declared.CarriedSeg.{CarriedSeg}
 use Rattle.segments.specs.declared.CarriedSeg.TheVariants.{Line, Arc, Collapsed}
 use Rattle.segments.specs.Segment.{end_of, end_tangent_of, tangent_at}
 use Rattle.segments.specs.InnerSteps.{full_arc, full_seg}
-use Rattle.meetings.specs.declared.Met.{Met}
+use Rattle.meetings.specs.declared.Meeting.{Meeting}
+use Rattle.meetings.specs.declared.Miss.{Miss}
 use Rattle.meetings.specs.declared.SeenArc.{SeenArc}
 use Rattle.meetings.specs.declared.SeenMet.{SeenMet}
 use Rattle.meetings.specs.Rules.{ruled}
@@ -45,14 +47,14 @@ seg_unseen (Collapsed a) = refl
 pub unseen_joins : (g : CarriedSeg) {r : Joined} {b b' : JoinBoundary} → r ≡ joined b not_seen → b ≡ b' → Joins r b' g
 unseen_joins g h e = record { boundary = ap (λ (r : Joined). r.boundary) h ∙ e; seen = ap (λ (r : Joined). seen_seg r.seen g) h ∙ seg_unseen g }
 
-pub arc_joins : (a : CarriedArc) (g : RawOffsetSeg) (ε : Float) (meet : RawOffsetArc → Met) (end : Vector2) {u : SeenArc} {shown : SeenMet} {b : JoinBoundary}
+pub arc_joins : (a : CarriedArc) (g : RawOffsetSeg) (ε : Float) (meet : RawOffsetArc → Result Meeting Miss) (end : Vector2) {u : SeenArc} {shown : SeenMet} {b : JoinBoundary}
     → u ≡ seen_arc not_seen a → Shows shown (ruled g (Full.Arc (angled u)) ε (meet (angled u))) u → b ≡ cut_by shown.met end a.start
     → Joins (joined b shown.seen) (ruled_boundary g (full_seg (Arc a)) ε (trimmed_by (meet (full_arc a)) end a.start)) (Arc a)
 arc_joins a g ε meet end {u} {shown} hu h e =
     let known = rw hu at h in
     let met = known.met ∙ ap (λ (x : RawOffsetArc). ruled g (Full.Arc x) ε (meet x)) (arc-unseen a) in
     record {
-      boundary = e ∙ ap (λ (m : Met). cut_by m end a.start) met ∙ ruled_cut g (full_seg (Arc a)) ε (meet (full_arc a)) end a.start;
+      boundary = e ∙ ap (λ (m : Result Meeting Miss). cut_by m end a.start) met ∙ ruled_cut g (full_seg (Arc a)) ε (meet (full_arc a)) end a.start;
       seen = ap Full.Arc (arc-seen a shown.seen known.seen);
     }
 

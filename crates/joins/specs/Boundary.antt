@@ -1,9 +1,8 @@
 -- The boundary between two offset segments: its cause, where the current span ends and the next one starts, and the connector between them (000's JoinBoundary, with
 -- the cause for the class, and its tip: where it has none, its next start). No rule is told as yet: `ruled_join` (Rules.antt) tells them. Definitions only.
-use Rattle.std.specs.Prelude.{Float}
+use Rattle.std.specs.Prelude.{None, Float}
 use Rattle.floats.specs.Binary64.{zero, one}
 use Rattle.vectors.specs.declared.Vector2.{Vector2}
-use Rattle.meetings.specs.declared.ArcRule.TheVariants.{NoRule}
 use Rattle.joins.specs.declared.JoinCause.{JoinCause}
 use Rattle.joins.specs.declared.JoinCause.TheVariants.{Met}
 use Rattle.joins.specs.declared.JoinBoundary.{JoinBoundary}
@@ -12,8 +11,8 @@ use Rattle.joins.specs.declared.JoinBoundary.{JoinBoundary}
 abbrev pub connected : JoinCause → Vector2 → Vector2 → Float → JoinBoundary
 connected cause a b bulge = record {
   cause = cause;
-  current_rule = NoRule;
-  next_rule = NoRule;
+  current_rule = None;
+  next_rule = None;
   current_end = a;
   current_param = one;
   next_start = b;
@@ -30,8 +29,8 @@ straight cause a b = connected cause a b zero
 abbrev pub trimmed : Vector2 → Float → Float → JoinBoundary
 trimmed p s t = record {
   cause = Met;
-  current_rule = NoRule;
-  next_rule = NoRule;
+  current_rule = None;
+  next_rule = None;
   current_end = p;
   current_param = s;
   next_start = p;

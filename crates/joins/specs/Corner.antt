@@ -1,12 +1,10 @@
 -- Outer corners in the pointed mode (02's 2026-13): an outer round join between two lines gets a tip, the point where the lines, prolonged, meet, if that is near enough; every
 -- other join stays as it is, and in the round mode every join does. Definitions only.
-use Rattle.std.specs.Prelude.{◌≡◌, Bool, true, false, Float}
+use Rattle.std.specs.Prelude.{◌≡◌, Bool, true, false, None, Option, Some, Float}
 use Rattle.std.specs.Float.Ieee.{le}
 use Rattle.floats.specs.Binary64.{◌⊗◌, zero}
 use Rattle.floats.specs.Choice.{when◌give◌else◌}
 use Rattle.vectors.specs.declared.Vector2.{Vector2}
-use Rattle.intersections.specs.declared.ProlongedIntr.{ProlongedIntr}
-use Rattle.intersections.specs.declared.ProlongedIntr.TheVariants.{NoIntersect, At}
 use Rattle.intersections.specs.Lines.{line_line, prolonged}
 use Rattle.intersections.specs.Points.{point_at, distance_squared}
 use Rattle.segments.specs.declared.Corners.{Corners}
@@ -15,7 +13,6 @@ use Rattle.segments.specs.declared.Settings.{Settings}
 use Rattle.segments.specs.declared.RawOffsetLine.{RawOffsetLine}
 use Rattle.segments.specs.declared.RawOffsetSeg.{RawOffsetSeg}
 use Rattle.segments.specs.declared.RawOffsetSeg.TheVariants.{Line, Arc, Collapsed}
-use Rattle.meetings.specs.declared.ArcRule.TheVariants.{NoRule}
 use Rattle.joins.specs.declared.JoinCause.{JoinCause}
 use Rattle.joins.specs.declared.JoinCause.TheVariants.{Coincident, Met, OuterTurn, OuterPoint, Reversal, CollapsedSide, NoMeeting, CandidatesMissed, ZeroTangent, SameDirection}
 use Rattle.joins.specs.declared.JoinBoundary.{JoinBoundary}
@@ -53,8 +50,8 @@ within_ratio ratio offset shared p = le (distance_squared p shared) ((ratio ⊗ 
 abbrev pub pointed_at : Vector2 → JoinBoundary → JoinBoundary
 pointed_at p j = record {
   cause = OuterPoint;
-  current_rule = NoRule;
-  next_rule = NoRule;
+  current_rule = None;
+  next_rule = None;
   current_end = j.current_end;
   current_param = j.current_param;
   next_start = j.next_start;
@@ -67,9 +64,9 @@ unfoldable pub pointed_if : Float → Float → Vector2 → Vector2 → JoinBoun
 pointed_if ratio offset shared p j = when within_ratio ratio offset shared p give pointed_at p j else j
 
 -- the tip is the point at 01's t on the first line; where |D| is under ε there is none
-abbrev pub corner_by : ProlongedIntr → RawOffsetLine → Vector2 → Float → Settings → JoinBoundary → JoinBoundary
-corner_by NoIntersect a shared ratio σ j = j
-corner_by (At t) a shared ratio σ j = pointed_if ratio σ.offset shared (point_at a.start a.end t) j
+abbrev pub corner_by : Option Float → RawOffsetLine → Vector2 → Float → Settings → JoinBoundary → JoinBoundary
+corner_by None a shared ratio σ j = j
+corner_by (Some t) a shared ratio σ j = pointed_if ratio σ.offset shared (point_at a.start a.end t) j
 
 -- of two lines alone; a collapsed arc is none
 abbrev pub corner_of : RawOffsetSeg → RawOffsetSeg → Vector2 → Float → Settings → JoinBoundary → JoinBoundary
@@ -99,7 +96,7 @@ pub record Sharp (g h : RawOffsetSeg) (shared : Vector2) (σ : Settings) : Type 
   pub second : RawOffsetLine
   pub lines : (g ≡ Line first) × (h ≡ Line second)
   pub t : Float
-  pub meet : prolonged (line_line first.start first.end second.start second.end σ.eps) ≡ At t
+  pub meet : prolonged (line_line first.start first.end second.start second.end σ.eps) ≡ Some t
   pub near : within_ratio ratio σ.offset shared (point_at first.start first.end t) ≡ true
 
 abbrev pub tip_of : {g h : RawOffsetSeg} {shared : Vector2} {σ : Settings} → Sharp g h shared σ → Vector2

@@ -1,5 +1,5 @@
 -- The code's steps on the way to a join. No rule rests on these: the rules are `tangent_turn` and `join_by`. Definitions only.
-use Rattle.std.specs.Prelude.{◌≡◌, Bool, true, false, T, Float}
+use Rattle.std.specs.Prelude.{◌≡◌, Bool, true, false, T, Result, Ok, Err, Option, Some, None, Float}
 use Rattle.std.specs.Float.Ieee.{lt, le, is_nan}
 use Rattle.floats.specs.Binary64.{◌⊗◌, zero, one, fuzzy}
 use Rattle.floats.specs.Choice.{when◌give◌else◌}
@@ -13,8 +13,8 @@ use Rattle.segments.specs.declared.CarriedSeg.{CarriedSeg}
 use Rattle.segments.specs.declared.CarriedSeg.TheVariants.{Line, Arc, Collapsed}
 use Rattle.segments.specs.InnerSteps.{full_seg}
 use Rattle.meetings.specs.declared.Meeting.{Meeting}
-use Rattle.meetings.specs.declared.Met.{Met}
-use Rattle.meetings.specs.declared.Met.TheVariants.{At, NoMeeting, CandidatesMissed}
+use Rattle.meetings.specs.declared.Miss.{Miss}
+use Rattle.meetings.specs.declared.Miss.TheVariants.{NoMeeting, CandidatesMissed}
 use Rattle.meetings.specs.declared.SeenArc.{SeenArc}
 use Rattle.meetings.specs.InnerSteps.{angled}
 use Rattle.joins.specs.declared.Joined.{Joined}
@@ -25,7 +25,6 @@ use Rattle.joins.specs.declared.JoinClass.TheVariants as Class
 use Rattle.joins.specs.declared.JoinCause.{JoinCause}
 use Rattle.joins.specs.declared.JoinCause.TheVariants as Cause
 use Rattle.joins.specs.declared.JoinBoundary.{JoinBoundary}
-use Rattle.joins.specs.declared.Settled.{Settled}
 use Rattle.joins.specs.Boundary.{straight, trimmed}
 use Rattle.joins.specs.Join.{join_by}
 use Rattle.joins.specs.Rules.{telling}
@@ -37,27 +36,27 @@ last_turn turn alignment incomingLenSq outgoingLenSq offset =
     when lt zero (offset ⊗ turn) give Inner else Outer
 
 -- the boundary of every cause but an inner turn
-abbrev pub settled_by : JoinTurn → RawOffsetSeg → RawOffsetSeg → Vector2 → Settings → Settled
-settled_by Coincident current next shared σ = Settled.Boundary (join_by Coincident current next shared σ)
-settled_by ZeroTangent current next shared σ = Settled.Boundary (join_by ZeroTangent current next shared σ)
-settled_by SameDirection current next shared σ = Settled.Boundary (join_by SameDirection current next shared σ)
-settled_by Reversal current next shared σ = Settled.Boundary (join_by Reversal current next shared σ)
-settled_by Outer current next shared σ = Settled.Boundary (join_by Outer current next shared σ)
-settled_by Inner current next shared σ = Settled.Inner
+abbrev pub settled_by : JoinTurn → RawOffsetSeg → RawOffsetSeg → Vector2 → Settings → Option JoinBoundary
+settled_by Coincident current next shared σ = Some (join_by Coincident current next shared σ)
+settled_by ZeroTangent current next shared σ = Some (join_by ZeroTangent current next shared σ)
+settled_by SameDirection current next shared σ = Some (join_by SameDirection current next shared σ)
+settled_by Reversal current next shared σ = Some (join_by Reversal current next shared σ)
+settled_by Outer current next shared σ = Some (join_by Outer current next shared σ)
+settled_by Inner current next shared σ = None
 
 -- what is settled is taken at once, and the rest is left to the intersection
-abbrev pub or_else_join : Settled → JoinBoundary → JoinBoundary
-or_else_join (Settled.Boundary b) inner = b
-or_else_join Settled.Inner inner = inner
+abbrev pub or_else_join : Option JoinBoundary → JoinBoundary → JoinBoundary
+or_else_join (Some b) inner = b
+or_else_join None inner = inner
 
 -- ---- a boundary made of a meeting, with the rules that the meeting tells
 abbrev pub cut_at : Meeting → JoinBoundary
 cut_at m = telling m.current_rule m.next_rule (trimmed m.point m.current_param m.next_param)
 
-abbrev pub cut_by : Met → Vector2 → Vector2 → JoinBoundary
-cut_by (At m) a b = cut_at m
-cut_by NoMeeting a b = straight Cause.NoMeeting a b
-cut_by CandidatesMissed a b = straight Cause.CandidatesMissed a b
+abbrev pub cut_by : Result Meeting Miss → Vector2 → Vector2 → JoinBoundary
+cut_by (Ok m) a b = cut_at m
+cut_by (Err NoMeeting) a b = straight Cause.NoMeeting a b
+cut_by (Err CandidatesMissed) a b = straight Cause.CandidatesMissed a b
 
 -- ---- a carried segment, with its start angle as it was seen, if it is an arc
 abbrev pub seen_arc : Float → CarriedArc → SeenArc

@@ -1,6 +1,6 @@
 -- The join of two neighbouring offset segments: its turn in the order of 01 §2, and the boundary that each makes (000's join_without_intersection and analyze_join).
 -- Definitions only.
-use Rattle.std.specs.Prelude.{Float}
+use Rattle.std.specs.Prelude.{Result, Ok, Err, Float}
 use Rattle.std.specs.Float.Ieee.{lt, le}
 use Rattle.floats.specs.Binary64.{◌⊗◌, zero, fuzzy}
 use Rattle.floats.specs.Choice.{when◌give◌else◌, ◌or◌}
@@ -10,8 +10,9 @@ use Rattle.segments.specs.declared.Settings.{Settings}
 use Rattle.segments.specs.declared.RawOffsetSeg.{RawOffsetSeg}
 use Rattle.segments.specs.declared.RawOffsetSeg.TheVariants.{Line, Arc, Collapsed}
 use Rattle.segments.specs.Segment.{start_of, end_of, start_tangent_of, end_tangent_of}
-use Rattle.meetings.specs.declared.Met.{Met}
-use Rattle.meetings.specs.declared.Met.TheVariants.{At, NoMeeting, CandidatesMissed}
+use Rattle.meetings.specs.declared.Meeting.{Meeting}
+use Rattle.meetings.specs.declared.Miss.{Miss}
+use Rattle.meetings.specs.declared.Miss.TheVariants.{NoMeeting, CandidatesMissed}
 use Rattle.meetings.specs.Meetings.{line_line_meeting, line_arc_meeting, arc_line_meeting, arc_arc_meeting}
 use Rattle.joins.specs.declared.JoinTurn.{JoinTurn}
 use Rattle.joins.specs.declared.JoinTurn.TheVariants.{Coincident, ZeroTangent, SameDirection, Reversal, Outer, Inner}
@@ -39,10 +40,10 @@ unfoldable pub rounded : JoinCause → Vector2 → Vector2 → Vector2 → Float
 rounded cause a b shared offset = connected cause a b (connector_bulge_of offset a b shared)
 
 -- a meeting trims both spans; without one the gap is bridged straight, and is invalid
-abbrev pub trimmed_by : Met → Vector2 → Vector2 → JoinBoundary
-trimmed_by (At m) a b = trimmed m.point m.current_param m.next_param
-trimmed_by NoMeeting a b = straight Cause.NoMeeting a b
-trimmed_by CandidatesMissed a b = straight Cause.CandidatesMissed a b
+abbrev pub trimmed_by : Result Meeting Miss → Vector2 → Vector2 → JoinBoundary
+trimmed_by (Ok m) a b = trimmed m.point m.current_param m.next_param
+trimmed_by (Err NoMeeting) a b = straight Cause.NoMeeting a b
+trimmed_by (Err CandidatesMissed) a b = straight Cause.CandidatesMissed a b
 
 -- an inner join: a collapsed side has no line or circle to meet, so the gap stays
 abbrev pub inner_join : RawOffsetSeg → RawOffsetSeg → Vector2 → Float → JoinBoundary

@@ -1,12 +1,11 @@
 -- The rules that a join tells (02's 2026-06): where two segments met, that by which each of them, if it is an arc, let the point of the meeting in. All else of a join is as
 -- it was (`forgets`, in proofs/Rules.antt). Definitions only.
-use Rattle.std.specs.Prelude.{◌≡◌, Float}
+use Rattle.std.specs.Prelude.{◌≡◌, None, Option, Float}
 use Rattle.vectors.specs.declared.Vector2.{Vector2}
 use Rattle.segments.specs.declared.Settings.{Settings}
 use Rattle.segments.specs.declared.RawOffsetSeg.{RawOffsetSeg}
 use Rattle.segments.specs.declared.RawOffsetSeg.TheVariants.{Line, Arc, Collapsed}
 use Rattle.meetings.specs.declared.ArcRule.{ArcRule}
-use Rattle.meetings.specs.declared.ArcRule.TheVariants.{NoRule}
 use Rattle.meetings.specs.Rules.{rule_at, FirstPassed, Grants}
 use Rattle.joins.specs.declared.JoinCause.{JoinCause}
 use Rattle.joins.specs.declared.JoinCause.TheVariants.{Coincident, Met, OuterTurn, OuterPoint, Reversal, CollapsedSide, NoMeeting, CandidatesMissed, ZeroTangent, SameDirection}
@@ -14,7 +13,7 @@ use Rattle.joins.specs.declared.JoinBoundary.{JoinBoundary}
 use Rattle.joins.specs.Join.{join_of}
 
 -- a boundary with two rules
-abbrev pub telling : ArcRule → ArcRule → JoinBoundary → JoinBoundary
+abbrev pub telling : Option ArcRule → Option ArcRule → JoinBoundary → JoinBoundary
 telling r q j = record {
   cause = j.cause;
   current_rule = r;
@@ -28,17 +27,17 @@ telling r q j = record {
 }
 
 -- a rule is told of a meeting alone
-abbrev pub of_meeting : JoinCause → ArcRule → ArcRule
-of_meeting Coincident r = NoRule
+abbrev pub of_meeting : JoinCause → Option ArcRule → Option ArcRule
+of_meeting Coincident r = None
 of_meeting Met r = r
-of_meeting OuterTurn r = NoRule
-of_meeting OuterPoint r = NoRule
-of_meeting Reversal r = NoRule
-of_meeting CollapsedSide r = NoRule
-of_meeting NoMeeting r = NoRule
-of_meeting CandidatesMissed r = NoRule
-of_meeting ZeroTangent r = NoRule
-of_meeting SameDirection r = NoRule
+of_meeting OuterTurn r = None
+of_meeting OuterPoint r = None
+of_meeting Reversal r = None
+of_meeting CollapsedSide r = None
+of_meeting NoMeeting r = None
+of_meeting CandidatesMissed r = None
+of_meeting ZeroTangent r = None
+of_meeting SameDirection r = None
 
 -- a boundary of two segments with the rules by which they let its point in
 unfoldable pub ruled_boundary : RawOffsetSeg → RawOffsetSeg → Float → JoinBoundary → JoinBoundary
@@ -51,12 +50,12 @@ ruled_join current next shared σ = ruled_boundary current next σ.eps (join_of 
 
 -- and without them
 abbrev pub forgotten : JoinBoundary → JoinBoundary
-forgotten j = telling NoRule NoRule j
+forgotten j = telling None None j
 
 -- ---- what the rule r of one side says, where the boundary has the point p and the side's parameter t: of an arc that r's test is the first that passes, and that t is what r
 -- grants; of a line that there is none. A collapsed side does not meet.
-abbrev pub Says : RawOffsetSeg → ArcRule → Vector2 → Float → Float → Type 0
-Says (Line l) r p t ε = r ≡ NoRule
+abbrev pub Says : RawOffsetSeg → Option ArcRule → Vector2 → Float → Float → Type 0
+Says (Line l) r p t ε = r ≡ None
 Says (Arc a) r p t ε = FirstPassed r a p ε × Grants r a p t
 Says (Collapsed a) r p t ε = ⊥
 
@@ -64,4 +63,4 @@ Says (Collapsed a) r p t ε = ⊥
 pub record Said (current next : RawOffsetSeg) (ε : Float) (j : JoinBoundary) : Type 0 where
   pub ends : j.cause ≡ Met → Says current j.current_rule j.current_end j.current_param ε
   pub starts : j.cause ≡ Met → Says next j.next_rule j.next_start j.next_param ε
-  pub unmet : (j.cause ≡ Met → ⊥) → (j.current_rule ≡ NoRule) × (j.next_rule ≡ NoRule)
+  pub unmet : (j.cause ≡ Met → ⊥) → (j.current_rule ≡ None) × (j.next_rule ≡ None)

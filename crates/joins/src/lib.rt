@@ -17,8 +17,7 @@ ghost use Rattle.segments.specs.Modes.{are_pointed};
 ghost use Rattle.segments.specs.InnerSteps.{full_seg, Marked};
 ghost use Rattle.meetings.specs.InnerSteps.{not_seen, angled};
 
-use intersections::ProlongedIntr;
-use meetings::{ArcRule, Meeting, Met, SeenArc};
+use meetings::{ArcRule, Meeting, Miss, SeenArc};
 use segments::{CarriedArc, CarriedSeg, Corners, RawOffsetLine, Settings};
 use vectors::Vector2;
 
@@ -65,14 +64,12 @@ impl JoinCause {
         match self {
             JoinCause::Coincident => JoinClass::Coincident,
             JoinCause::Met => JoinClass::Trimmed,
-            JoinCause::OuterTurn => JoinClass::OuterRound,
-            JoinCause::OuterPoint => JoinClass::OuterRound,
+            JoinCause::OuterTurn | JoinCause::OuterPoint => JoinClass::OuterRound,
             JoinCause::Reversal => JoinClass::ReversalRound,
-            JoinCause::CollapsedSide => JoinClass::InvalidInnerGap,
-            JoinCause::NoMeeting => JoinClass::InvalidInnerGap,
-            JoinCause::CandidatesMissed => JoinClass::InvalidInnerGap,
-            JoinCause::ZeroTangent => JoinClass::InvalidDegenerateGap,
-            JoinCause::SameDirection => JoinClass::InvalidDegenerateGap,
+            JoinCause::CollapsedSide | JoinCause::NoMeeting | JoinCause::CandidatesMissed => {
+                JoinClass::InvalidInnerGap
+            }
+            JoinCause::ZeroTangent | JoinCause::SameDirection => JoinClass::InvalidDegenerateGap,
         }
     }
 
@@ -80,36 +77,14 @@ impl JoinCause {
     fn is_outer_turn(self) -> bool
         ensures { result ≡ is_outer_turn self }
     {
-        match self {
-            JoinCause::Coincident => false,
-            JoinCause::Met => false,
-            JoinCause::OuterTurn => true,
-            JoinCause::OuterPoint => false,
-            JoinCause::Reversal => false,
-            JoinCause::CollapsedSide => false,
-            JoinCause::NoMeeting => false,
-            JoinCause::CandidatesMissed => false,
-            JoinCause::ZeroTangent => false,
-            JoinCause::SameDirection => false,
-        }
+        matches!(self, JoinCause::OuterTurn)
     }
 
     // An outer corner with a tip.
     pub fn is_pointed(self) -> bool
         ensures { result ≡ is_pointed self }
     {
-        match self {
-            JoinCause::Coincident => false,
-            JoinCause::Met => false,
-            JoinCause::OuterTurn => false,
-            JoinCause::OuterPoint => true,
-            JoinCause::Reversal => false,
-            JoinCause::CollapsedSide => false,
-            JoinCause::NoMeeting => false,
-            JoinCause::CandidatesMissed => false,
-            JoinCause::ZeroTangent => false,
-            JoinCause::SameDirection => false,
-        }
+        matches!(self, JoinCause::OuterPoint)
     }
 }
 
@@ -118,21 +93,14 @@ impl JoinCause {
 #[derive(Clone, Copy)]
 pub struct JoinBoundary {
     pub cause: JoinCause,
-    pub current_rule: ArcRule,
-    pub next_rule: ArcRule,
+    pub current_rule: Option<ArcRule>,
+    pub next_rule: Option<ArcRule>,
     pub current_end: Vector2,
     pub current_param: f64,
     pub next_start: Vector2,
     pub next_param: f64,
     pub connector_bulge: f64,
     pub tip: Vector2,
-}
-
-// A boundary that needs no intersection, or an inner join, which does.
-#[derive(Clone, Copy)]
-pub enum Settled {
-    Boundary(JoinBoundary),
-    Inner,
 }
 
 impl JoinBoundary {
@@ -147,8 +115,8 @@ impl JoinBoundary {
     {
         JoinBoundary {
             cause,
-            current_rule: ArcRule::NoRule,
-            next_rule: ArcRule::NoRule,
+            current_rule: None,
+            next_rule: None,
             current_end,
             current_param: 1.0,
             next_start,
@@ -169,19 +137,16 @@ impl JoinBoundary {
     pub fn trimmed(meeting: Meeting) -> JoinBoundary
         ensures { result ≡ cut_at meeting }
     {
-        let point = meeting.point;
-        let current_rule = meeting.current_rule;
-        let next_rule = meeting.next_rule;
         JoinBoundary {
             cause: JoinCause::Met,
-            current_rule,
-            next_rule,
-            current_end: point,
+            current_rule: meeting.current_rule,
+            next_rule: meeting.next_rule,
+            current_end: meeting.point,
             current_param: meeting.current_param,
-            next_start: point,
+            next_start: meeting.point,
             next_param: meeting.next_param,
             connector_bulge: 0.0,
-            tip: point,
+            tip: meeting.point,
         }
     }
 
@@ -189,20 +154,10 @@ impl JoinBoundary {
     pub fn without_rules(self) -> JoinBoundary
         ensures { result ≡ forgotten self }
     {
-        let cause = self.cause;
-        let current_end = self.current_end;
-        let next_start = self.next_start;
-        let tip = self.tip;
         JoinBoundary {
-            cause,
-            current_rule: ArcRule::NoRule,
-            next_rule: ArcRule::NoRule,
-            current_end,
-            current_param: self.current_param,
-            next_start,
-            next_param: self.next_param,
-            connector_bulge: self.connector_bulge,
-            tip,
+            current_rule: None,
+            next_rule: None,
+            ..self
         }
     }
 
@@ -210,37 +165,27 @@ impl JoinBoundary {
     fn pointed(self, tip: Vector2) -> JoinBoundary
         ensures { result ≡ pointed_at tip self }
     {
-        let current_end = self.current_end;
-        let next_start = self.next_start;
         JoinBoundary {
             cause: JoinCause::OuterPoint,
-            current_rule: ArcRule::NoRule,
-            next_rule: ArcRule::NoRule,
-            current_end,
-            current_param: self.current_param,
-            next_start,
-            next_param: self.next_param,
+            current_rule: None,
+            next_rule: None,
             connector_bulge: 0.0,
             tip,
+            ..self
         }
     }
 
     pub fn connector_is_invalid(self) -> bool
         ensures { result ≡ is_gap (class_of self.cause) }
     {
-        let cause = self.cause;
-        match cause {
-            JoinCause::Coincident => false,
-            JoinCause::Met => false,
-            JoinCause::OuterTurn => false,
-            JoinCause::OuterPoint => false,
-            JoinCause::Reversal => false,
-            JoinCause::CollapsedSide => true,
-            JoinCause::NoMeeting => true,
-            JoinCause::CandidatesMissed => true,
-            JoinCause::ZeroTangent => true,
-            JoinCause::SameDirection => true,
-        }
+        matches!(
+            self.cause,
+            JoinCause::CollapsedSide
+                | JoinCause::NoMeeting
+                | JoinCause::CandidatesMissed
+                | JoinCause::ZeroTangent
+                | JoinCause::SameDirection
+        )
     }
 }
 
@@ -286,8 +231,8 @@ pub fn connector_bulge(
 ) -> f64
     ensures { result ≡ connector_bulge_of offset current_end next_start shared_source_vertex }
 {
-    let to_end = current_end.sub(shared_source_vertex);
-    let to_start = next_start.sub(shared_source_vertex);
+    let to_end = current_end - shared_source_vertex;
+    let to_start = next_start - shared_source_vertex;
     // both are about as long as the offset
     let lengths = floats::roots_near(
         to_end.length_squared(),
@@ -363,14 +308,14 @@ pub fn classify_join(current: CarriedSeg, next: CarriedSeg, settings: Settings) 
     tangent_turn(current.end_tangent(), next.start_tangent(), settings)
 }
 
-// The boundary of each turn but an inner one. A coincident one starts the next span at the
+// The boundary of each turn but an inner one, which needs an intersection. A coincident one starts the next span at the
 // current segment's end.
 pub fn join_without_intersection(
     current: CarriedSeg,
     next: CarriedSeg,
     shared_source_vertex: Vector2,
     settings: Settings,
-) -> Settled
+) -> Option<JoinBoundary>
     requires { Marked current × Marked next }
     ensures { result ≡ settled_by (turn_of (full_seg current) (full_seg next) settings) (full_seg current) (full_seg next) shared_source_vertex settings }
 {
@@ -378,48 +323,44 @@ pub fn join_without_intersection(
     let start = next.start();
     let turn = classify_join(current, next, settings);
     match turn {
-        JoinTurn::Coincident => Settled::Boundary(JoinBoundary::straight(
-            JoinCause::Coincident,
-            end,
-            end,
-        )),
-        JoinTurn::ZeroTangent => Settled::Boundary(JoinBoundary::straight(
-            JoinCause::ZeroTangent,
-            end,
-            start,
-        )),
-        JoinTurn::SameDirection => Settled::Boundary(JoinBoundary::straight(
+        JoinTurn::Coincident => Some(JoinBoundary::straight(JoinCause::Coincident, end, end)),
+        JoinTurn::ZeroTangent => Some(JoinBoundary::straight(JoinCause::ZeroTangent, end, start)),
+        JoinTurn::SameDirection => Some(JoinBoundary::straight(
             JoinCause::SameDirection,
             end,
             start,
         )),
-        JoinTurn::Reversal => Settled::Boundary(JoinBoundary::connected(
+        JoinTurn::Reversal => Some(JoinBoundary::connected(
             JoinCause::Reversal,
             end,
             start,
             connector_bulge(settings.offset, end, start, shared_source_vertex),
         )),
-        JoinTurn::Outer => Settled::Boundary(JoinBoundary::connected(
+        JoinTurn::Outer => Some(JoinBoundary::connected(
             JoinCause::OuterTurn,
             end,
             start,
             connector_bulge(settings.offset, end, start, shared_source_vertex),
         )),
-        JoinTurn::Inner => Settled::Inner,
+        JoinTurn::Inner => None,
     }
 }
 
-fn trimmed_or_gap(met: Met, current_end: Vector2, next_start: Vector2) -> JoinBoundary
+fn trimmed_or_gap(
+    met: Result<Meeting, Miss>,
+    current_end: Vector2,
+    next_start: Vector2,
+) -> JoinBoundary
     ensures { result ≡ cut_by met current_end next_start }
 {
     match met {
-        Met::At(meeting) => JoinBoundary::trimmed(meeting),
-        Met::NoMeeting => JoinBoundary::straight(JoinCause::NoMeeting, current_end, next_start),
-        Met::CandidatesMissed => JoinBoundary::straight(
-            JoinCause::CandidatesMissed,
-            current_end,
-            next_start,
-        ),
+        Ok(meeting) => JoinBoundary::trimmed(meeting),
+        Err(Miss::NoMeeting) => {
+            JoinBoundary::straight(JoinCause::NoMeeting, current_end, next_start)
+        }
+        Err(Miss::CandidatesMissed) => {
+            JoinBoundary::straight(JoinCause::CandidatesMissed, current_end, next_start)
+        }
     }
 }
 
@@ -448,13 +389,10 @@ fn unseen(boundary: JoinBoundary) -> Joined
 fn seen_arc(arc: CarriedArc, seen: f64) -> SeenArc
     ensures { result ≡ seen_arc seen arc }
 {
-    let start = arc.start;
-    let end = arc.end;
-    let center = arc.center;
     SeenArc {
-        start,
-        end,
-        center,
+        start: arc.start,
+        end: arc.end,
+        center: arc.center,
         radius: arc.radius,
         sweep: arc.sweep,
         seen,
@@ -478,10 +416,8 @@ fn join_from_line(
         CarriedSeg::Arc(arc) => {
             let unknown = seen_arc(arc, meetings::not_seen());
             let shown = meetings::line_arc_meeting(current, unknown, shared_source_vertex, eps);
-            let met = shown.met;
-            let boundary = trimmed_or_gap(met, current.end, arc.start);
             Joined {
-                boundary,
+                boundary: trimmed_or_gap(shown.met, current.end, arc.start),
                 seen: shown.seen,
             }
         }
@@ -506,10 +442,8 @@ fn join_from_arc(
         CarriedSeg::Arc(arc) => {
             let unknown = seen_arc(arc, meetings::not_seen());
             let shown = meetings::arc_arc_meeting(current, unknown, shared_source_vertex, eps);
-            let met = shown.met;
-            let boundary = trimmed_or_gap(met, current.end, arc.start);
             Joined {
-                boundary,
+                boundary: trimmed_or_gap(shown.met, current.end, arc.start),
                 seen: shown.seen,
             }
         }
@@ -547,7 +481,7 @@ pub fn analyze_join(
     ensures { Joins result (ruled_join (seen_seg seen current) (full_seg next) shared_source_vertex settings) next }
 {
     let settled = join_without_intersection(current, next, shared_source_vertex, settings);
-    if let Settled::Boundary(boundary) = settled {
+    if let Some(boundary) = settled {
         return unseen(boundary);
     }
     inner_join(current, seen, next, shared_source_vertex, settings.eps)
@@ -591,8 +525,8 @@ fn corner_of_lines(
     let end = current.end;
     let crossed = intersections::prolonged_intr(start, end, next.start, next.end, settings.eps);
     match crossed {
-        ProlongedIntr::NoIntersect => boundary,
-        ProlongedIntr::At { seg1_t } => pointed_if_near(
+        None => boundary,
+        Some(seg1_t) => pointed_if_near(
             boundary,
             intersections::point_from_parametric(start, end, seg1_t),
             shared_source_vertex,
@@ -612,18 +546,17 @@ fn corner_from_line(
 ) -> JoinBoundary
     ensures { result ≡ corner_of (Line current) (full_seg next) shared_source_vertex ratio settings boundary }
 {
-    match next {
-        CarriedSeg::Line(line) => corner_of_lines(
+    if let CarriedSeg::Line(line) = next {
+        return corner_of_lines(
             boundary,
             current,
             line,
             shared_source_vertex,
             ratio,
             settings,
-        ),
-        CarriedSeg::Arc(_) => boundary,
-        CarriedSeg::Collapsed(_) => boundary,
+        );
     }
+    boundary
 }
 
 // In the pointed mode an outer corner of two lines gets a tip, where that is near enough.
@@ -637,22 +570,13 @@ fn pointed_corner(
 ) -> JoinBoundary
     ensures { result ≡ when is_outer_turn boundary.cause give corner_of (full_seg current) (full_seg next) shared_source_vertex ratio settings boundary else boundary }
 {
-    let cause = boundary.cause;
-    if !cause.is_outer_turn() {
+    if !boundary.cause.is_outer_turn() {
         return boundary;
     }
-    match current {
-        CarriedSeg::Line(line) => corner_from_line(
-            boundary,
-            line,
-            next,
-            shared_source_vertex,
-            ratio,
-            settings,
-        ),
-        CarriedSeg::Arc(_) => boundary,
-        CarriedSeg::Collapsed(_) => boundary,
+    if let CarriedSeg::Line(line) = current {
+        return corner_from_line(boundary, line, next, shared_source_vertex, ratio, settings);
     }
+    boundary
 }
 
 // The boundary of a join in the mode that is asked for. The mode is told beside the settings too: a

@@ -6,7 +6,7 @@
 ghost use Rattle.std.specs.Prelude.{◌<◌};
 
 use joins::{JoinBoundary, JoinClass, JoinTurn};
-use meetings::{ArcParam, ArcRule, Met, Param, SeenArc, SeenMet};
+use meetings::{ArcParam, ArcRule, Meeting, Miss, SeenArc, SeenMet};
 use segments::{CarriedSeg, PlineVertex, RawOffsetArc, RawOffsetLine, RawOffsetSeg, Settings};
 use words::{number, print, print_bool, print_number, print_vector, vector, word};
 
@@ -135,17 +135,17 @@ fn span(row: &[u8; 192]) {
     print_number(seg.span_bulge(from, to));
 }
 
-fn print_param(param: Param) {
+fn print_param(param: Option<f64>) {
     match param {
-        Param::Usable(t) => print_number(t),
-        Param::Missed => print(b" missed"),
+        Some(t) => print_number(t),
+        None => print(b" missed"),
     }
 }
 
 fn usable_line_param(row: &[u8; 192]) {
     let start = vector(row, 2);
     let end = vector(row, 4);
-    let length_squared = end.sub(start).length_squared();
+    let length_squared = (end - start).length_squared();
     print(b"usable_line_param");
     print_param(meetings::usable_line_param(number(row, 1), length_squared, number(row, 6)));
 }
@@ -176,34 +176,32 @@ fn squared_distances_equal(row: &[u8; 192]) {
     print_bool(meetings::squared_distances_equal(number(row, 1), number(row, 2), number(row, 3)));
 }
 
-fn print_rule(rule: ArcRule) {
+fn print_rule(rule: Option<ArcRule>) {
     match rule {
-        ArcRule::NoRule => print(b" none"),
-        ArcRule::StartMatched => print(b" start"),
-        ArcRule::EndMatched => print(b" end"),
-        ArcRule::Inside => print(b" inside"),
-        ArcRule::PastEnd => print(b" past"),
+        None => print(b" none"),
+        Some(ArcRule::StartMatched) => print(b" start"),
+        Some(ArcRule::EndMatched) => print(b" end"),
+        Some(ArcRule::Inside) => print(b" inside"),
+        Some(ArcRule::PastEnd) => print(b" past"),
     }
 }
 
-fn print_rules(current: ArcRule, next: ArcRule) {
+fn print_rules(current: Option<ArcRule>, next: Option<ArcRule>) {
     print_rule(current);
     print_rule(next);
 }
 
-fn print_met(met: Met) {
+fn print_met(met: Result<Meeting, Miss>) {
     match met {
-        Met::At(meeting) => {
+        Ok(meeting) => {
             print(b" at");
             print_vector(meeting.point);
             print_number(meeting.current_param);
             print_number(meeting.next_param);
-            let current_rule = meeting.current_rule;
-            let next_rule = meeting.next_rule;
-            print_rules(current_rule, next_rule);
+            print_rules(meeting.current_rule, meeting.next_rule);
         }
-        Met::NoMeeting => print(b" none"),
-        Met::CandidatesMissed => print(b" missed"),
+        Err(Miss::NoMeeting) => print(b" none"),
+        Err(Miss::CandidatesMissed) => print(b" missed"),
     }
 }
 
@@ -229,7 +227,7 @@ fn arc_line_meeting(row: &[u8; 192]) {
     print_met(arc_line(row, arc(row, 1)));
 }
 
-fn arc_line(row: &[u8; 192], arc: SeenArc) -> Met {
+fn arc_line(row: &[u8; 192], arc: SeenArc) -> Result<Meeting, Miss> {
     meetings::arc_line_meeting(arc, line(row, 10), vector(row, 14), number(row, 16))
 }
 
@@ -324,9 +322,7 @@ fn print_boundary(boundary: JoinBoundary) {
     print_number(boundary.next_param);
     print_number(boundary.connector_bulge);
     print_bool(boundary.connector_is_invalid());
-    let current_rule = boundary.current_rule;
-    let next_rule = boundary.next_rule;
-    print_rules(current_rule, next_rule);
+    print_rules(boundary.current_rule, boundary.next_rule);
 }
 
 // Three vertices: the segments between them are joined at the second.

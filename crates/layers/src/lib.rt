@@ -261,10 +261,9 @@ fn listed_join(boundary: JoinBoundary, out: &mut [f64; 7]) -> u32
         boundary.next_param,
         boundary.connector_bulge,
     ];
-    let cause = boundary.cause;
-    let current_rule = boundary.current_rule;
-    let next_rule = boundary.next_rule;
-    100 * cause_number(cause) + 10 * current_rule.number() + next_rule.number()
+    100 * cause_number(boundary.cause)
+        + 10 * meetings::rule_number(boundary.current_rule)
+        + meetings::rule_number(boundary.next_rule)
 }
 
 // joins::analyze_join at the third of four vertices, after the join at the second, as a walk comes to it

@@ -3,19 +3,20 @@
 use mathlib.Core.Path.{◌≡◌, refl, sym, ap, ◌∙◌}
 use mathlib.Core.Bool.{Bool, true, false}
 use lib.Ieee.{Float, lt}
+use Rattle.std.specs.Prelude.{Result, Ok, Err, is_ok}
 use Rattle.floats.specs.Choice.{when◌give◌else◌}
 use Rattle.floats.proofs.Choice.{yes, no, told}
 use Rattle.segments.specs.declared.RawOffsetSeg.{RawOffsetSeg}
-use Rattle.meetings.specs.declared.Met.{Met}
-use Rattle.meetings.specs.declared.Met.TheVariants.{At, NoMeeting, CandidatesMissed}
+use Rattle.meetings.specs.declared.Meeting.{Meeting}
+use Rattle.meetings.specs.declared.Miss.{Miss}
 use Rattle.meetings.specs.declared.SeenArc.{SeenArc}
 use Rattle.meetings.specs.declared.SeenMet.{SeenMet}
 use Rattle.meetings.specs.Params.{squared_distances_equal}
 use Rattle.meetings.specs.Meetings.{or_else, nearer_of}
 use Rattle.meetings.specs.Rules.{ruled}
-use Rattle.meetings.specs.InnerSteps.{Shows, is_at}
+use Rattle.meetings.specs.InnerSteps.{Shows}
 
-module _ (g h : RawOffsetSeg) (η d e ε : Float) (a b : Met) (arc : SeenArc) {x y : Float} {t : Bool} {r : SeenMet} (first : x ≡ d) (second : y ≡ e) (asked : t ≡ squared_distances_equal x y ε) where
+module _ (g h : RawOffsetSeg) (η d e ε : Float) (a b : Result Meeting Miss) (arc : SeenArc) {x y : Float} {t : Bool} {r : SeenMet} (first : x ≡ d) (second : y ≡ e) (asked : t ≡ squared_distances_equal x y ε) where
   pub either : t ≡ true → Shows r (ruled g h η (or_else a b)) arc → Shows r (ruled g h η (nearer_of d e ε a b)) arc
   unfolding nearer_of
   either y q = rw (← first, ← second, ← yes _ (or_else a b) _ (told asked y) refl) q
@@ -29,25 +30,23 @@ module _ (g h : RawOffsetSeg) (η d e ε : Float) (a b : Met) (arc : SeenArc) {x
   the_second n l q = rw (← first, ← second, ← no _ _ _ (told asked n) (no _ a b l refl)) q
 
 -- `or_else` chooses by whether the first met
-by_first : (a b : Met) → when is_at a give a else b ≡ or_else a b
+by_first : (a b : Result Meeting Miss) → when is_ok a give a else b ≡ or_else a b
 unfolding when◌give◌else◌
-by_first (At m) b = refl
-by_first NoMeeting b = refl
-by_first CandidatesMissed b = refl
+by_first (Ok m) b = refl
+by_first (Err e) b = refl
 
 -- which the rules leave as it is
-ruled-at : (g h : RawOffsetSeg) (ε : Float) (a : Met) → is_at (ruled g h ε a) ≡ is_at a
+ruled-at : (g h : RawOffsetSeg) (ε : Float) (a : Result Meeting Miss) → is_ok (ruled g h ε a) ≡ is_ok a
 unfolding ruled
-ruled-at g h ε (At m) = refl
-ruled-at g h ε NoMeeting = refl
-ruled-at g h ε CandidatesMissed = refl
+ruled-at g h ε (Ok m) = refl
+ruled-at g h ε (Err e) = refl
 
-module _ (g h : RawOffsetSeg) (ε : Float) (a b : Met) (arc : SeenArc) {t : Bool} {f : SeenMet} (first : Shows f (ruled g h ε a) arc) (asked : t ≡ is_at f.met) where
-  same : is_at f.met ≡ is_at a
-  same = ap is_at first.met ∙ ruled-at g h ε a
+module _ (g h : RawOffsetSeg) (ε : Float) (a b : Result Meeting Miss) (arc : SeenArc) {t : Bool} {f : SeenMet} (first : Shows f (ruled g h ε a) arc) (asked : t ≡ is_ok f.met) where
+  same : is_ok f.met ≡ is_ok a
+  same = ap is_ok first.met ∙ ruled-at g h ε a
 
   pub kept : t ≡ true → Shows f (ruled g h ε (or_else a b)) arc
-  kept q = rw (← by_first, ← yes (is_at a) a b (sym same ∙ told asked q) refl) first
+  kept q = rw (← by_first, ← yes (is_ok a) a b (sym same ∙ told asked q) refl) first
 
   pub tried : {r : SeenMet} → t ≡ false → Shows r (ruled g h ε b) arc → Shows r (ruled g h ε (or_else a b)) arc
-  tried q s = rw (← by_first, ← no (is_at a) a b (sym same ∙ told asked q) refl) s
+  tried q s = rw (← by_first, ← no (is_ok a) a b (sym same ∙ told asked q) refl) s

@@ -2,30 +2,28 @@
 -- (`ruled-exchanged`), and two lines have none (`overlap_ruled`). Assumes nothing.
 use mathlib.Core.Path.{◌≡◌, refl}
 use lib.Ieee.{Float}
+use Rattle.std.specs.Prelude.{Option, Some, None, Result, Ok, Err}
 use Rattle.vectors.specs.declared.Vector2.{Vector2}
 use Rattle.segments.specs.declared.RawOffsetLine.{RawOffsetLine}
 use Rattle.segments.specs.declared.RawOffsetSeg.{RawOffsetSeg}
 use Rattle.segments.specs.declared.RawOffsetSeg.TheVariants.{Line}
-use Rattle.meetings.specs.declared.Param.{Param}
-use Rattle.meetings.specs.declared.Param.TheVariants.{Usable, Missed}
-use Rattle.meetings.specs.declared.Met.{Met}
-use Rattle.meetings.specs.declared.Met.TheVariants.{At, NoMeeting, CandidatesMissed}
+use Rattle.meetings.specs.declared.Meeting.{Meeting}
+use Rattle.meetings.specs.declared.Miss.{Miss}
 use Rattle.meetings.specs.Meetings.{overlap_meeting, met_where, exchanged}
 use Rattle.meetings.specs.Rules.{rule_at, with_rules, ruled}
 
-pub ruled_where : (g h : RawOffsetSeg) (ε : Float) (p : Vector2) (s t : Param) → ruled g h ε (met_where p s t) ≡ with_rules (rule_at g p ε) (rule_at h p ε) (met_where p s t)
+pub ruled_where : (g h : RawOffsetSeg) (ε : Float) (p : Vector2) (s t : Option Float) → ruled g h ε (met_where p s t) ≡ with_rules (rule_at g p ε) (rule_at h p ε) (met_where p s t)
 unfolding ruled
-ruled_where g h ε p (Usable s) (Usable t) = refl
-ruled_where g h ε p (Usable s) Missed = refl
-ruled_where g h ε p Missed t = refl
+ruled_where g h ε p (Some s) (Some t) = refl
+ruled_where g h ε p (Some s) None = refl
+ruled_where g h ε p None t = refl
 
-pub ruled-exchanged : (g h : RawOffsetSeg) (ε : Float) (m : Met) → exchanged (ruled g h ε m) ≡ ruled h g ε (exchanged m)
+pub ruled-exchanged : (g h : RawOffsetSeg) (ε : Float) (m : Result Meeting Miss) → exchanged (ruled g h ε m) ≡ ruled h g ε (exchanged m)
 unfolding ruled
-ruled-exchanged g h ε (At m) = refl
-ruled-exchanged g h ε NoMeeting = refl
-ruled-exchanged g h ε CandidatesMissed = refl
+ruled-exchanged g h ε (Ok m) = refl
+ruled-exchanged g h ε (Err e) = refl
 
-pub overlap_ruled : (a b : RawOffsetLine) (ε : Float) (end : Vector2) (t : Param) → ruled (Line a) (Line b) ε (overlap_meeting end t) ≡ overlap_meeting end t
+pub overlap_ruled : (a b : RawOffsetLine) (ε : Float) (end : Vector2) (t : Option Float) → ruled (Line a) (Line b) ε (overlap_meeting end t) ≡ overlap_meeting end t
 unfolding ruled
-overlap_ruled a b ε end (Usable t) = refl
-overlap_ruled a b ε end Missed = refl
+overlap_ruled a b ε end (Some t) = refl
+overlap_ruled a b ε end None = refl

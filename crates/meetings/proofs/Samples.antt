@@ -4,6 +4,7 @@ use mathlib.Core.Path.{◌≡◌, refl}
 use mathlib.Core.Bool.{Bool, true, false}
 use mathlib.Core.List.{List, [], ◌∷◌}
 use lib.Ieee.{Float, binary64, of_bits, neg, add, sub, mul, div, lt, le, eq}
+use Rattle.std.specs.Prelude.{Option, Some, None, Result, Err}
 use Rattle.floats.specs.Binary64.{zero, half, one, two, four, eight}
 use Rattle.floats.specs.Choice.{when◌give◌else◌, ◌and◌, ◌or◌}
 use Rattle.floats.specs.Size.{abs_of, within}
@@ -17,12 +18,11 @@ use Rattle.intersections.specs.LineCircle.{line_circle}
 use Rattle.intersections.specs.Circles.{circle_circle}
 use Rattle.segments.specs.declared.RawOffsetLine.{RawOffsetLine}
 use Rattle.segments.specs.declared.RawOffsetArc.{RawOffsetArc}
-use Rattle.meetings.specs.declared.Param.{Param}
-use Rattle.meetings.specs.declared.Param.TheVariants.{Usable, Missed}
 use Rattle.meetings.specs.declared.ArcParam.{ArcParam}
 use Rattle.meetings.specs.declared.ArcParam.TheVariants.{StartMatched, EndMatched, Inside, PastEnd, OffArc}
-use Rattle.meetings.specs.declared.Met.{Met}
-use Rattle.meetings.specs.declared.Met.TheVariants.{NoMeeting, CandidatesMissed}
+use Rattle.meetings.specs.declared.Meeting.{Meeting}
+use Rattle.meetings.specs.declared.Miss.{Miss}
+use Rattle.meetings.specs.declared.Miss.TheVariants.{NoMeeting, CandidatesMissed}
 use Rattle.meetings.specs.Params.{far_past, snapped_param, usable_line_param, traveled, swept_param, usable_arc_param, squared_distances_equal}
 use Rattle.meetings.specs.Meetings.{met_at, clamp_param, meeting_point, line_line_meeting, nearer_of, line_arc_point, line_arc_candidate, line_arc_meeting, arc_line_meeting, arc_arc_point, arc_arc_candidate, arc_arc_meeting}
 
@@ -103,24 +103,24 @@ abbrev pub at : Float → Float → Vector2
 at a b = record { x = a; y = b }
 
 -- ((parameter, squared length), tolerance)
-abbrev pub line_rows : List (Row ((Float × Float) × Float) Param)
+abbrev pub line_rows : List (Row ((Float × Float) × Float) (Option Float))
 line_rows =
     -- inside, at the ends, and −0 and a NaN, which pass neither test
-    (((half, one), ε) gives Usable half) ∷
-    (((zero, one), ε) gives Usable zero) ∷
-    (((one, one), ε) gives Usable one) ∷
-    (((−zero, one), ε) gives Usable −zero) ∷
-    (((nan, one), ε) gives Usable nan) ∷
+    (((half, one), ε) gives Some half) ∷
+    (((zero, one), ε) gives Some zero) ∷
+    (((one, one), ε) gives Some one) ∷
+    (((−zero, one), ε) gives Some −zero) ∷
+    (((nan, one), ε) gives Some nan) ∷
     -- past an end by more than the tolerance, by just as much, and where that cannot be told
-    (((−half, one), quarter) gives Missed) ∷
-    (((−half, one), half) gives Usable zero) ∷
-    (((−half, nan), ε) gives Usable zero) ∷
-    (((two, one), half) gives Missed) ∷
-    (((two, one), one) gives Usable one) ∷
-    (((two, one), nan) gives Usable one) ∷
+    (((−half, one), quarter) gives None) ∷
+    (((−half, one), half) gives Some zero) ∷
+    (((−half, nan), ε) gives Some zero) ∷
+    (((two, one), half) gives None) ∷
+    (((two, one), one) gives Some one) ∷
+    (((two, one), nan) gives Some one) ∷
     -- the squared length counts
-    (((two, quarter), half) gives Usable one) ∷
-    (((two, four), one) gives Missed) ∷
+    (((two, quarter), half) gives Some one) ∷
+    (((two, four), one) gives None) ∷
     []
 
 pub line_samples : worked (λ (r : (Float × Float) × Float). usable_line_param r.0.0 r.0.1 r.1) line_rows ≡ written line_rows
@@ -184,17 +184,17 @@ abbrev pub level : RawOffsetLine
 level = between (at zero zero) (at four zero)
 
 -- (the next line, tolerance)
-abbrev pub crossing_rows : List (Row (RawOffsetLine × Float) Met)
+abbrev pub crossing_rows : List (Row (RawOffsetLine × Float) (Result Meeting Miss))
 crossing_rows =
     -- crossed, or crossed past the end within a tolerance of 1/2, or beyond it
     ((between (at two −one) (at two three), ε) gives met_at (at two zero) half quarter) ∷
     ((between (at five −one) (at five three), half) gives met_at (at four zero) one quarter) ∷
-    ((between (at five −one) (at five three), ε) gives CandidatesMissed) ∷
+    ((between (at five −one) (at five three), ε) gives Err CandidatesMissed) ∷
     -- beside it
-    ((between (at zero one) (at four one), ε) gives NoMeeting) ∷
+    ((between (at zero one) (at four one), ε) gives Err NoMeeting) ∷
     -- on it, reaching past its end, or not
     ((between (at two zero) (at eight zero), ε) gives met_at (at four zero) one (of_bits binary64 0x3fd5_5555_5555_5555)) ∷
-    ((between (at −four zero) (at two zero), ε) gives CandidatesMissed) ∷
+    ((between (at −four zero) (at two zero), ε) gives Err CandidatesMissed) ∷
     []
 
 pub crossing_samples : worked (λ (r : RawOffsetLine × Float). line_line_meeting level r.0 r.1) crossing_rows ≡ written crossing_rows
@@ -206,14 +206,14 @@ abbrev pub quarter_arc : RawOffsetArc
 quarter_arc = record { start = at two zero; end = at zero two; center = at zero zero; radius = two; start_angle = zero; sweep = half_π }
 
 -- The line from (−4, 0) to (4, 0) meets that circle at (−2, 0), which is off the arc, and at (2, 0). (the line's height, the shared source vertex)
-abbrev pub line_arc_rows : List (Row (Float × Vector2) Met)
+abbrev pub line_arc_rows : List (Row (Float × Vector2) (Result Meeting Miss))
 line_arc_rows =
     -- as near: both are tried; nearer to one: that one alone
     ((zero, at zero zero) gives met_at (at two zero) three_quarters_lem zero) ∷
     ((zero, at one zero) gives met_at (at two zero) three_quarters_lem zero) ∷
-    ((zero, at −one zero) gives CandidatesMissed) ∷
+    ((zero, at −one zero) gives Err CandidatesMissed) ∷
     -- above the circle, and along its top
-    ((four, at zero zero) gives NoMeeting) ∷
+    ((four, at zero zero) gives Err NoMeeting) ∷
     ((two, at zero zero) gives met_at (at zero two) half one) ∷
     []
 
@@ -230,7 +230,7 @@ unfolding opened
 arc-line_sample = refl
 
 -- (the next arc, the shared source vertex)
-abbrev pub arc_arc_rows : List (Row (RawOffsetArc × Vector2) Met)
+abbrev pub arc_arc_rows : List (Row (RawOffsetArc × Vector2) (Result Meeting Miss))
 arc_arc_rows =
     -- on the same circle: its start is the current arc's end; its start is off the current arc, and its end is that arc's end
     ((record { start = at zero two; end = at −two zero; center = at zero zero; radius = two; start_angle = half_π; sweep = half_π }, at zero zero) gives met_at (at zero two) one zero) ∷
@@ -240,7 +240,7 @@ arc_arc_rows =
     ((record { start = at zero two; end = at two zero; center = at two two; radius = two; start_angle = π; sweep = half_π }, at two zero) gives met_at (at two zero) zero one) ∷
     -- about (4, 0), touching at (2, 0); about (8, 0), far off
     ((record { start = at two zero; end = at four two; center = at four zero; radius = two; start_angle = π; sweep = neg half_π }, at zero zero) gives met_at (at two zero) zero zero) ∷
-    ((record { start = at two zero; end = at four two; center = at eight zero; radius = two; start_angle = π; sweep = neg half_π }, at zero zero) gives NoMeeting) ∷
+    ((record { start = at two zero; end = at four two; center = at eight zero; radius = two; start_angle = π; sweep = neg half_π }, at zero zero) gives Err NoMeeting) ∷
     []
 
 pub arc-arc_samples : worked (λ (r : RawOffsetArc × Vector2). arc_arc_meeting quarter_arc r.0 r.1 ε) arc_arc_rows ≡ written arc_arc_rows

@@ -1,6 +1,6 @@
 -- What steps of the code promise, an arc's start angle being known or not, and a point's angle and the point at a parameter being worked out before. No rule rests
 -- on these: the rules are `usable_arc_param` and `line_arc_candidate`. Definitions only.
-use Rattle.std.specs.Prelude.{◌≡◌, Bool, true, false, Float}
+use Rattle.std.specs.Prelude.{◌≡◌, Bool, true, false, Some, None, Result, Ok, Err, Float}
 use Rattle.std.specs.Float.Ieee.{eq}
 use Rattle.floats.specs.Binary64.{◌⊘◌, zero}
 use Rattle.floats.specs.Choice.{when◌give◌else◌}
@@ -10,10 +10,9 @@ use Rattle.segments.specs.declared.RawOffsetLine.{RawOffsetLine}
 use Rattle.segments.specs.declared.RawOffsetArc.{RawOffsetArc}
 use Rattle.meetings.specs.declared.ArcParam.{ArcParam}
 use Rattle.meetings.specs.declared.ArcParam.TheVariants.{StartMatched, EndMatched}
-use Rattle.meetings.specs.declared.Param.TheVariants.{Usable}
-use Rattle.meetings.specs.declared.ArcRule.TheVariants.{NoRule}
-use Rattle.meetings.specs.declared.Met.{Met}
-use Rattle.meetings.specs.declared.Met.TheVariants.{At, NoMeeting, CandidatesMissed}
+use Rattle.meetings.specs.declared.Meeting.{Meeting}
+use Rattle.meetings.specs.declared.Miss.{Miss}
+use Rattle.meetings.specs.declared.Miss.TheVariants.{NoMeeting}
 use Rattle.meetings.specs.declared.SeenArc.{SeenArc}
 use Rattle.meetings.specs.declared.SeenMet.{SeenMet}
 use Rattle.angles.specs.Angle.{angle_of}
@@ -43,17 +42,12 @@ OffEnds a p ε = (near p a.start ε ≡ false) × (near p a.end ε ≡ false)
 
 -- no meeting, and no more seen of an arc's start angle than before
 abbrev pub no_meeting : Float → SeenMet
-no_meeting s = record { met = NoMeeting; seen = s }
+no_meeting s = record { met = Err NoMeeting; seen = s }
 
 -- r is the meeting m, and what it says of an arc's start angle is that start angle
-pub record Shows (r : SeenMet) (m : Met) (a : SeenArc) : Type 0 where
+pub record Shows (r : SeenMet) (m : Result Meeting Miss) (a : SeenArc) : Type 0 where
   pub met : r.met ≡ m
   pub seen : start_angle_of (seen_as r.seen a) ≡ start_angle_of a
-
-abbrev pub is_at : Met → Bool
-is_at (At m) = true
-is_at NoMeeting = false
-is_at CandidatesMissed = false
 
 -- `usable_arc_param`, where `angle` is the point's
 unfoldable pub arc_param_at : RawOffsetArc → Vector2 → Float → Float → ArcParam
@@ -62,11 +56,11 @@ arc_param_at arc point angle ε =
     when near point arc.end ε give EndMatched else swept_param arc (traveled arc angle) ε
 
 -- a point at parameter s of a line, with the rule by which the arc lets it in
-abbrev pub line_ruled : RawOffsetArc → Vector2 → Float → Float → Met
-line_ruled arc p s ε = with_rules NoRule (rule_of (usable_arc_param arc p ε)) (met_where p (Usable s) (arc_param (usable_arc_param arc p ε)))
+abbrev pub line_ruled : RawOffsetArc → Vector2 → Float → Float → Result Meeting Miss
+line_ruled arc p s ε = with_rules None (rule_of (usable_arc_param arc p ε)) (met_where p (Some s) (arc_param (usable_arc_param arc p ε)))
 
 -- the candidate at parameter t of the line, where `at` is the line's point there
-unfoldable pub line_arc_at : RawOffsetLine → RawOffsetArc → Float → Vector2 → Float → Met
+unfoldable pub line_arc_at : RawOffsetLine → RawOffsetArc → Float → Vector2 → Float → Result Meeting Miss
 line_arc_at line arc t at ε =
     let point = line_arc_point line arc t at ε in
     met_where point (usable_line_param t (length_squared_of (line.end ⊟ line.start)) ε) (arc_param (usable_arc_param arc point ε))

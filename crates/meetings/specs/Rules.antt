@@ -1,5 +1,5 @@
 -- The rule by which an arc let the point of a meeting in (02's 2026-06). Definitions only.
-use Rattle.std.specs.Prelude.{◌≡◌, Bool, true, false, ℕ, Float}
+use Rattle.std.specs.Prelude.{◌≡◌, Bool, true, false, ℕ, Option, Some, None, Result, Ok, Err, Float}
 use Rattle.std.specs.Float.Ieee.{lt}
 use Rattle.floats.specs.Binary64.{◌⊖◌, ◌⊗◌, ◌⊘◌, zero, one}
 use Rattle.floats.specs.Size.{abs_of}
@@ -12,44 +12,42 @@ use Rattle.segments.specs.declared.RawOffsetSeg.TheVariants.{Line, Arc, Collapse
 use Rattle.meetings.specs.declared.ArcParam.{ArcParam}
 use Rattle.meetings.specs.declared.ArcParam.TheVariants as Param
 use Rattle.meetings.specs.declared.ArcRule.{ArcRule}
-use Rattle.meetings.specs.declared.ArcRule.TheVariants.{NoRule, StartMatched, EndMatched, Inside, PastEnd}
-use Rattle.meetings.specs.declared.Met.{Met}
-use Rattle.meetings.specs.declared.Met.TheVariants.{At, NoMeeting, CandidatesMissed}
+use Rattle.meetings.specs.declared.ArcRule.TheVariants.{StartMatched, EndMatched, Inside, PastEnd}
+use Rattle.meetings.specs.declared.Meeting.{Meeting}
+use Rattle.meetings.specs.declared.Miss.{Miss}
 use Rattle.meetings.specs.Params.{traveled, usable_arc_param}
 
 -- the rule that grants the parameter of each answer
-abbrev pub rule_of : ArcParam → ArcRule
-rule_of Param.StartMatched = StartMatched
-rule_of Param.EndMatched = EndMatched
-rule_of (Param.Inside t) = Inside
-rule_of Param.PastEnd = PastEnd
-rule_of Param.OffArc = NoRule
+abbrev pub rule_of : ArcParam → Option ArcRule
+rule_of Param.StartMatched = Some StartMatched
+rule_of Param.EndMatched = Some EndMatched
+rule_of (Param.Inside t) = Some Inside
+rule_of Param.PastEnd = Some PastEnd
+rule_of Param.OffArc = None
 
 -- as callers get it
-abbrev pub rule_number : ArcRule → ℕ
-rule_number NoRule = 0
-rule_number StartMatched = 1
-rule_number EndMatched = 2
-rule_number Inside = 3
-rule_number PastEnd = 4
+abbrev pub rule_number : Option ArcRule → ℕ
+rule_number None = 0
+rule_number (Some StartMatched) = 1
+rule_number (Some EndMatched) = 2
+rule_number (Some Inside) = 3
+rule_number (Some PastEnd) = 4
 
 -- the rule by which a segment lets a point in: an arc's, and none of another
-abbrev pub rule_at : RawOffsetSeg → Vector2 → Float → ArcRule
-rule_at (Line l) p ε = NoRule
+abbrev pub rule_at : RawOffsetSeg → Vector2 → Float → Option ArcRule
+rule_at (Line l) p ε = None
 rule_at (Arc a) p ε = rule_of (usable_arc_param a p ε)
-rule_at (Collapsed a) p ε = NoRule
+rule_at (Collapsed a) p ε = None
 
 -- a meeting with the two rules
-abbrev pub with_rules : ArcRule → ArcRule → Met → Met
-with_rules r q (At m) = At (record { point = m.point; current_param = m.current_param; next_param = m.next_param; current_rule = r; next_rule = q })
-with_rules r q NoMeeting = NoMeeting
-with_rules r q CandidatesMissed = CandidatesMissed
+abbrev pub with_rules : Option ArcRule → Option ArcRule → Result Meeting Miss → Result Meeting Miss
+with_rules r q (Ok m) = Ok (record { point = m.point; current_param = m.current_param; next_param = m.next_param; current_rule = r; next_rule = q })
+with_rules r q (Err e) = Err e
 
 -- A meeting of two segments tells the rules by which they let its own point in. That point is the candidate that was taken, moved to an end that is near.
-unfoldable pub ruled : RawOffsetSeg → RawOffsetSeg → Float → Met → Met
-ruled current next ε (At m) = with_rules (rule_at current m.point ε) (rule_at next m.point ε) (At m)
-ruled current next ε NoMeeting = NoMeeting
-ruled current next ε CandidatesMissed = CandidatesMissed
+unfoldable pub ruled : RawOffsetSeg → RawOffsetSeg → Float → Result Meeting Miss → Result Meeting Miss
+ruled current next ε (Ok m) = with_rules (rule_at current m.point ε) (rule_at next m.point ε) (Ok m)
+ruled current next ε (Err e) = Err e
 
 -- ---- what a rule says
 
@@ -59,22 +57,22 @@ run_to arc p = traveled arc (angle_of arc.center p)
 
 -- 000 asks in this order whether the point is near the arc's start, or near its end; whether it lies beyond the end, and then whether too far. The test of each rule is the
 -- first that passes, and no rule is left where it lies too far.
-abbrev pub First : ArcRule → (start end beyond far : Bool) → Type 0
-First StartMatched start end beyond far = start ≡ true
-First EndMatched start end beyond far = (start ≡ false) × (end ≡ true)
-First Inside start end beyond far = (start ≡ false) × (end ≡ false) × (beyond ≡ false)
-First PastEnd start end beyond far = (start ≡ false) × (end ≡ false) × (beyond ≡ true) × (far ≡ false)
-First NoRule start end beyond far = (start ≡ false) × (end ≡ false) × (beyond ≡ true) × (far ≡ true)
+abbrev pub First : Option ArcRule → (start end beyond far : Bool) → Type 0
+First (Some StartMatched) start end beyond far = start ≡ true
+First (Some EndMatched) start end beyond far = (start ≡ false) × (end ≡ true)
+First (Some Inside) start end beyond far = (start ≡ false) × (end ≡ false) × (beyond ≡ false)
+First (Some PastEnd) start end beyond far = (start ≡ false) × (end ≡ false) × (beyond ≡ true) × (far ≡ false)
+First None start end beyond far = (start ≡ false) × (end ≡ false) × (beyond ≡ true) × (far ≡ true)
 
-abbrev pub FirstPassed : ArcRule → RawOffsetArc → Vector2 → Float → Type 0
+abbrev pub FirstPassed : Option ArcRule → RawOffsetArc → Vector2 → Float → Type 0
 FirstPassed r arc p ε =
     let sweep = abs_of arc.sweep in
     First r (near p arc.start ε) (near p arc.end ε) (lt sweep (run_to arc p)) (lt ε (arc.radius ⊗ (run_to arc p ⊖ sweep)))
 
 -- t is the parameter that the rule grants the point; without a rule nothing is granted
-abbrev pub Grants : ArcRule → RawOffsetArc → Vector2 → Float → Type 0
-Grants NoRule arc p t = ⊥
-Grants StartMatched arc p t = t ≡ zero
-Grants EndMatched arc p t = t ≡ one
-Grants Inside arc p t = t ≡ run_to arc p ⊘ abs_of arc.sweep
-Grants PastEnd arc p t = t ≡ one
+abbrev pub Grants : Option ArcRule → RawOffsetArc → Vector2 → Float → Type 0
+Grants None arc p t = ⊥
+Grants (Some StartMatched) arc p t = t ≡ zero
+Grants (Some EndMatched) arc p t = t ≡ one
+Grants (Some Inside) arc p t = t ≡ run_to arc p ⊘ abs_of arc.sweep
+Grants (Some PastEnd) arc p t = t ≡ one

@@ -57,22 +57,22 @@ impl Memo {
     fn keep_two(&mut self, bulge: f64, next: f64) -> f64
         ensures { result ≡ sweep_of bulge }
     {
-        let both = angles::two_sweeps(bulge, next);
-        self.keep(bulge, both.first);
-        self.keep(next, both.second);
-        both.first
+        let [first, second] = angles::sweeps([bulge, next]);
+        self.keep(bulge, first);
+        self.keep(next, second);
+        first
     }
 
     // The same with those of two more.
     fn keep_four(&mut self, bulge: f64, next: f64, third: f64, fourth: f64) -> f64
         ensures { result ≡ sweep_of bulge }
     {
-        let all = angles::four_sweeps(bulge, next, third, fourth);
-        self.keep(bulge, all.first);
-        self.keep(fourth, all.fourth);
-        self.keep(third, all.third);
-        self.keep(next, all.second);
-        all.first
+        let [first, second, of_third, of_fourth] = angles::sweeps([bulge, next, third, fourth]);
+        self.keep(bulge, first);
+        self.keep(fourth, of_fourth);
+        self.keep(third, of_third);
+        self.keep(next, second);
+        first
     }
 
     // A bulge's sweep, where vertex k comes next. If neither it nor the next one's is kept, and two vertices

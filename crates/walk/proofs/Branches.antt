@@ -12,6 +12,7 @@ use native.Mathlib.Omega.{arith}
 use lib.ListN.{length, drop, get_or, length-drop}
 use lib.Seq.{get_or-drop, drop-drop}
 use lib.Ieee.{Float, le}
+use Rattle.std.specs.Prelude.{Result, Ok, Err}
 use Rattle.floats.specs.Choice.{when◌give◌else◌, ◌or◌}
 use Rattle.vectors.specs.Plane.{near}
 use Rattle.vectors.specs.declared.Vector2.{Vector2}
@@ -21,7 +22,8 @@ use Rattle.segments.specs.declared.RawOffsetSeg.TheVariants.{Line, Arc, Collapse
 use Rattle.segments.specs.declared.Settings.{Settings}
 use Rattle.segments.specs.Vertex.{pos_of}
 use Rattle.segments.specs.Segment.{offset_seg, start_of, end_of, is_collapsed}
-use Rattle.meetings.specs.declared.Met.{Met}
+use Rattle.meetings.specs.declared.Meeting.{Meeting as TheMeeting}
+use Rattle.meetings.specs.declared.Miss.{Miss}
 use Rattle.meetings.specs.Meetings.{line_line_meeting, line_arc_meeting, arc_line_meeting, arc_arc_meeting}
 use Rattle.joins.specs.declared.JoinTurn.{JoinTurn}
 use Rattle.joins.specs.declared.JoinTurn.TheVariants as Turn
@@ -80,7 +82,7 @@ module _ (g : RawOffsetSeg) (from to : Float) where
 -- ---- a connector
 
 -- what an inner join makes of the search's answer
-pub searched : (g h : RawOffsetSeg) (shared : Vector2) (ε : Float) (m : Met) → Searched g h shared ε m → inner_join g h shared ε ≡ trimmed_by m (end_of g) (start_of h)
+pub searched : (g h : RawOffsetSeg) (shared : Vector2) (ε : Float) (m : Result TheMeeting Miss) → Searched g h shared ε m → inner_join g h shared ε ≡ trimmed_by m (end_of g) (start_of h)
 searched (Line a) (Line b) shared ε m s = rw s
 searched (Line a) (Arc b) shared ε m s = rw s
 searched (Line a) (Collapsed b) shared ε m s = absurd s
@@ -93,11 +95,11 @@ module _ (σ : Settings) where
   abbrev corner : RawOffsetSeg → RawOffsetSeg → Vector2 → Corner
   corner g h shared = record { current = g; next = h; shared = shared }
 
-  met_took : (g h : RawOffsetSeg) (shared : Vector2) → turn_of g h σ ≡ Turn.Inner → (a b : Vector2) (m : Met) → Searched g h shared σ.eps m
+  met_took : (g h : RawOffsetSeg) (shared : Vector2) → turn_of g h σ ≡ Turn.Inner → (a b : Vector2) (m : Result TheMeeting Miss) → Searched g h shared σ.eps m
       → ConnectorBranch (connector_reason (trimmed_by m a b).cause) (corner g h shared) σ
-  met_took g h shared e a b (Met.At m) s = inr (e, (m, s))
-  met_took g h shared e a b Met.NoMeeting s = (e, s)
-  met_took g h shared e a b Met.CandidatesMissed s = (e, s)
+  met_took g h shared e a b (Ok m) s = inr (e, (m, s))
+  met_took g h shared e a b (Err Miss.NoMeeting) s = (e, s)
+  met_took g h shared e a b (Err Miss.CandidatesMissed) s = (e, s)
 
   inner_took : (g h : RawOffsetSeg) (shared : Vector2) → turn_of g h σ ≡ Turn.Inner
       → ConnectorBranch (connector_reason (inner_join g h shared σ.eps).cause) (corner g h shared) σ
@@ -153,10 +155,10 @@ module _ (σ : Settings) where
     plain_only Round h n = rw h.0
     plain_only Reversal h n = rw h
     plain_only Meeting (inl h) n = rw h
-    plain_only Meeting (inr h) n = rw (h.0, searched k.current k.next k.shared σ.eps (Met.At h.1.0) h.1.1)
+    plain_only Meeting (inr h) n = rw (h.0, searched k.current k.next k.shared σ.eps (Ok h.1.0) h.1.1)
     plain_only CollapsedSide h n = rw (h.0, collapsed_never_meets k.current k.next k.shared σ.eps h.1)
-    plain_only NoMeeting h n = rw (h.0, searched k.current k.next k.shared σ.eps Met.NoMeeting h.1)
-    plain_only CandidatesMissed h n = rw (h.0, searched k.current k.next k.shared σ.eps Met.CandidatesMissed h.1)
+    plain_only NoMeeting h n = rw (h.0, searched k.current k.next k.shared σ.eps (Err Miss.NoMeeting) h.1)
+    plain_only CandidatesMissed h n = rw (h.0, searched k.current k.next k.shared σ.eps (Err Miss.CandidatesMissed) h.1)
     plain_only ZeroTangent h n = rw h
     plain_only SameDirection h n = rw h
     plain_only Copied h n = absurd h

@@ -2,6 +2,7 @@
 -- Assumes nothing.
 use mathlib.Core.Path.{◌≡◌, refl}
 use lib.Ieee.{binary64, of_bits}
+use Rattle.std.specs.Prelude.{Option, Some}
 use Rattle.floats.specs.Binary64.{zero, one, two}
 use Rattle.angles.specs.Angle.{quarter_turn, sweep_of}
 use Rattle.segments.specs.declared.PlineVertex.{PlineVertex}
@@ -29,7 +30,7 @@ abbrev σ : Settings
 abbrev told : PlineVertex → PlineVertex → PlineVertex → JoinBoundary
 told a b c = ruled_join (offset_seg a b σ.offset) (offset_seg b c σ.offset) (pos_of b) σ
 
-abbrev rules : JoinBoundary → ArcRule × ArcRule
+abbrev rules : JoinBoundary → Option ArcRule × Option ArcRule
 rules j = (j.current_rule, j.next_rule)
 
 unfoldable seen : Unit {0}
@@ -37,11 +38,11 @@ unfolding opened quarter_turn sweep_of bulge_is_zero bulge_is_neg arc_radius cho
 seen = tt
 
 -- the first span's end and the second one's start
-pub inner_rules : rules (told first second first) ≡ (Inside, Inside)
+pub inner_rules : rules (told first second first) ≡ (Some Inside, Some Inside)
 unfolding seen
 inner_rules = refl
 
 -- the last span's end and the first one's start
-pub closing_rules : rules (told second first second) ≡ (Inside, Inside)
+pub closing_rules : rules (told second first second) ≡ (Some Inside, Some Inside)
 unfolding seen
 closing_rules = refl

@@ -8,6 +8,7 @@ use mathlib.Core.Bool.{Bool, true, false, true≢false}
 use Prim.Native.Nat.{ℕ, suc}
 use lib.ListN.{length}
 use lib.Ieee.{Float, lt}
+use Rattle.std.specs.Prelude.{Ok}
 use Rattle.floats.specs.Binary64.{zero}
 use Rattle.floats.specs.Choice.{when◌give◌else◌, ◌and◌}
 use Rattle.floats.specs.Size.{finite}
@@ -19,7 +20,6 @@ use Rattle.segments.specs.declared.RawOffsetSeg.{RawOffsetSeg}
 use Rattle.segments.specs.declared.Settings.{Settings}
 use Rattle.segments.specs.Vertex.{vertex_at}
 use Rattle.segments.specs.Segment.{offset_seg}
-use Rattle.meetings.specs.declared.Met.TheVariants as Met
 use Rattle.joins.specs.declared.JoinBoundary.{JoinBoundary}
 use Rattle.joins.specs.declared.JoinCause.{JoinCause}
 use Rattle.joins.specs.Join.{join_of}
@@ -53,7 +53,7 @@ module _ (σ : Settings) where
     where
       by : ConnectorBranch Meeting k σ → (join_of k.current k.next k.shared σ).next_start ≡ (join_of k.current k.next k.shared σ).current_end
       by (inl h) = rw h
-      by (inr h) = rw (h.0, searched k.current k.next k.shared σ.eps (Met.At h.1.0) h.1.1)
+      by (inr h) = rw (h.0, searched k.current k.next k.shared σ.eps (Ok h.1.0) h.1.1)
 
   tip-unmet : (c : JoinCause) → is_pointed c ≡ true → connector_reason c ≡ Meeting → ⊥
   tip-unmet c t e = let z : ◌≡◌ {A = Reason} Pointed Meeting = ap connector_reason (sym (pointed-cause c t)) ∙ e in true≢false (cc)

@@ -1,6 +1,6 @@
 -- The branch of the rules that each reason stands for (02's 2026-01), for a span and for a connector. `proofs/Branches.antt` shows that a move has a reason exactly when that
 -- branch was taken. Definitions only.
-use Rattle.std.specs.Prelude.{◌≡◌, ◌⊎◌, ◌↔◌, Bool, true, false, ℕ, ◌<◌, length, get_or, Float}
+use Rattle.std.specs.Prelude.{◌≡◌, ◌⊎◌, ◌↔◌, Bool, true, false, ℕ, ◌<◌, length, get_or, Result, Ok, Err, Float}
 use mathlib.Core.List.{List, Memᴰ}
 use Rattle.std.specs.Float.Ieee.{le}
 use Rattle.floats.specs.Choice.{◌or◌}
@@ -11,7 +11,7 @@ use Rattle.segments.specs.declared.RawOffsetSeg.{RawOffsetSeg}
 use Rattle.segments.specs.declared.RawOffsetSeg.TheVariants.{Line, Arc, Collapsed}
 use Rattle.segments.specs.Segment.{is_collapsed}
 use Rattle.meetings.specs.declared.Meeting.{Meeting}
-use Rattle.meetings.specs.declared.Met.{Met}
+use Rattle.meetings.specs.declared.Miss.{Miss}
 use Rattle.meetings.specs.Meetings.{line_line_meeting, line_arc_meeting, arc_line_meeting, arc_arc_meeting}
 use Rattle.joins.specs.declared.JoinTurn.TheVariants as Turn
 use Rattle.joins.specs.Join.{turn_of}
@@ -43,7 +43,7 @@ SpanBranch Pointed g from to = ⊥
 -- ---- a connector
 
 -- the search for a meeting of two segments answers m; with a collapsed side nothing is searched for
-abbrev pub Searched : RawOffsetSeg → RawOffsetSeg → Vector2 → Float → Met → Type 0
+abbrev pub Searched : RawOffsetSeg → RawOffsetSeg → Vector2 → Float → Result Meeting Miss → Type 0
 Searched (Line a) (Line b) shared ε m = line_line_meeting a b ε ≡ m
 Searched (Line a) (Arc b) shared ε m = line_arc_meeting a b shared ε ≡ m
 Searched (Line a) (Collapsed b) shared ε m = ⊥
@@ -61,10 +61,10 @@ ConnectorBranch Round k σ = (turn_of k.current k.next σ ≡ Turn.Outer) × (Sh
 ConnectorBranch Reversal k σ = turn_of k.current k.next σ ≡ Turn.Reversal
 ConnectorBranch MeetingConnector k σ =
     (turn_of k.current k.next σ ≡ Turn.Coincident)
-    ⊎ ((turn_of k.current k.next σ ≡ Turn.Inner) × ((m : Meeting) × Searched k.current k.next k.shared σ.eps (Met.At m)))
+    ⊎ ((turn_of k.current k.next σ ≡ Turn.Inner) × ((m : Meeting) × Searched k.current k.next k.shared σ.eps (Ok m)))
 ConnectorBranch CollapsedSide k σ = (turn_of k.current k.next σ ≡ Turn.Inner) × ((is_collapsed k.current or is_collapsed k.next) ≡ true)
-ConnectorBranch NoMeeting k σ = (turn_of k.current k.next σ ≡ Turn.Inner) × Searched k.current k.next k.shared σ.eps Met.NoMeeting
-ConnectorBranch CandidatesMissed k σ = (turn_of k.current k.next σ ≡ Turn.Inner) × Searched k.current k.next k.shared σ.eps Met.CandidatesMissed
+ConnectorBranch NoMeeting k σ = (turn_of k.current k.next σ ≡ Turn.Inner) × Searched k.current k.next k.shared σ.eps (Err Miss.NoMeeting)
+ConnectorBranch CandidatesMissed k σ = (turn_of k.current k.next σ ≡ Turn.Inner) × Searched k.current k.next k.shared σ.eps (Err Miss.CandidatesMissed)
 ConnectorBranch ZeroTangent k σ = turn_of k.current k.next σ ≡ Turn.ZeroTangent
 ConnectorBranch SameDirection k σ = turn_of k.current k.next σ ≡ Turn.SameDirection
 ConnectorBranch Copied k σ = ⊥

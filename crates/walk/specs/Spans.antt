@@ -1,6 +1,6 @@
 -- The corners of a source and where its spans start and end, by the numbers of its segments (02's 2026-01): what a walk tells beside its moves. They are read off the vertices;
 -- that the moves of `walk_moves` are made of these is shown in `proofs/Branches.antt`. Definitions only.
-use Rattle.std.specs.Prelude.{List, [], ◌∷◌, ◌++◌, map, Bool, Float}
+use Rattle.std.specs.Prelude.{List, [], ◌∷◌, ◌++◌, map, Bool, Option, None, Float}
 use Rattle.floats.specs.Binary64.{zero, one}
 use Rattle.floats.specs.Choice.{when◌give◌else◌}
 use Rattle.vectors.specs.declared.Vector2.{Vector2}
@@ -10,7 +10,6 @@ use Rattle.segments.specs.declared.RawOffsetSeg.{RawOffsetSeg}
 use Rattle.segments.specs.Vertex.{pos_of}
 use Rattle.segments.specs.Segment.{offset_seg}
 use Rattle.meetings.specs.declared.ArcRule.{ArcRule}
-use Rattle.meetings.specs.declared.ArcRule.TheVariants.{NoRule}
 use Rattle.joins.specs.declared.JoinBoundary.{JoinBoundary}
 use Rattle.joins.specs.Rules.{ruled_join}
 use Rattle.walk.specs.Walk.{last_vertex}
@@ -59,7 +58,7 @@ segs_of closed σ a b vs = segs_from σ a b (turns_to closed a vs)
 -- where a span starts or ends: its parameter there, and the rule by which its arc was trimmed there
 pub record Edge : Type 0 where
   pub param : Float
-  pub rule : ArcRule
+  pub rule : Option ArcRule
 
 -- at a join: of the span after it, and of the span before it
 abbrev pub start_at : JoinBoundary → Edge
@@ -70,10 +69,10 @@ end_at j = record { param = j.current_param; rule = j.current_rule }
 
 -- where there is no join
 abbrev pub whole_start : Edge
-whole_start = record { param = zero; rule = NoRule }
+whole_start = record { param = zero; rule = None }
 
 abbrev pub whole_end : Edge
-whole_end = record { param = one; rule = NoRule }
+whole_end = record { param = one; rule = None }
 
 -- where the span of segment i starts, and where it ends
 unfoldable pub starts_of : Bool → Settings → PlineVertex → PlineVertex → List PlineVertex → List Edge

@@ -22,7 +22,7 @@ unfolding circle_circle
 returns-then-are_tangent c =
     let apart = c.before.before.before.before in
     let far = apart.before.before in
-    rw (← far.before.before.sub-cv.ensures, ← far.before.length-d.ensures, ← c.scale.ensures, ← c.add-m.ensures)
+    rw (← far.before.before.sub-cv.ensures, ← far.before.length-d.ensures, ← c.mul.ensures, ← c.add-m.ensures)
     (no _ _ _ far.if-d-eps.false (no _ _ _ (told apart.are_apart.ensures apart.if-are_apart.false) (yes _ _ _ (told c.are_tangent.ensures c.if-are_tangent.true) refl)))
 
 pub returns : goal.returns
@@ -34,12 +34,12 @@ returns c =
     rw (
       ← far.before.before.sub-cv.ensures,
       ← far.before.length-d.ensures,
-      ← tangent.scale.ensures,
+      ← tangent.mul.ensures,
       ← tangent.add-m.ensures,
       ←
           c.perp.ensures,
       ← c.sqrt.ensures,
-      ← c.scale-side.ensures,
+      ← c.mul-side.ensures,
       ← c.add.ensures,
       ← c.sub.ensures,
     )

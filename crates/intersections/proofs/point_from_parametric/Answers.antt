@@ -4,4 +4,4 @@ use Rattle.intersections.proofs.point_from_parametric.Goals as goal
 
 pub returns : goal.returns
 unfolding point_at
-returns c = simp (c.add.ensures, c.scale.ensures, c.sub.ensures)
+returns c = simp (c.add.ensures, c.mul.ensures, c.sub.ensures)

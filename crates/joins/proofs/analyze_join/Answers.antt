@@ -6,9 +6,9 @@ use Rattle.joins.proofs.analyze_join.Goals as goal
 pub join_without_intersection-settled-requires : goal.join_without_intersection-settled-requires
 join_without_intersection-settled-requires c = c.requires
 
-pub returns-in-Boundary : goal.returns-in-Boundary
-returns-in-Boundary c =
-    unseen_joins _ c.unseen.ensures (rw (join-seen _ _ _ _ _) (rw (sym c.join_without_intersection-settled.ensures ∙ c.in-Boundary.is) refl))
+pub returns-in-Some : goal.returns-in-Some
+returns-in-Some c =
+    unseen_joins _ c.unseen.ensures (rw (join-seen _ _ _ _ _) (rw (sym c.join_without_intersection-settled.ensures ∙ c.in-Some.is) refl))
 
 pub returns : goal.returns
 returns c =

@@ -2,8 +2,8 @@
 use mathlib.Core.Path.{refl, sym, ◌∙◌}
 use Rattle.joins.proofs.corner_of_lines.Goals as goal
 
-pub returns-in-NoIntersect : goal.returns-in-NoIntersect
-returns-in-NoIntersect c = rw (sym c.prolonged_intr-crossed.ensures ∙ c.in-NoIntersect.is) (refl)
+pub returns-in-None : goal.returns-in-None
+returns-in-None c = rw (sym c.prolonged_intr-crossed.ensures ∙ c.in-None.is) (refl)
 
-pub returns-in-At : goal.returns-in-At
-returns-in-At c = rw (sym c.prolonged_intr-crossed.ensures ∙ c.in-At.is) (c.pointed_if_near.ensures ∙ rw c.point_from_parametric.ensures refl)
+pub returns-in-Some : goal.returns-in-Some
+returns-in-Some c = rw (sym c.prolonged_intr-crossed.ensures ∙ c.in-Some.is) (c.pointed_if_near.ensures ∙ rw c.point_from_parametric.ensures refl)

@@ -19,7 +19,7 @@ returns-in-Arc c =
     let arc = c.in-Arc.arc in
     let unknown = c.seen_arc-unknown.ensures ∙ ap (λ (s : Float). seen_arc s arc) c.not_seen.ensures in
     rw c.in-Arc.is
-    (arc_joins arc (Arc (angled c.args.current)) c.args.eps (λ (x : RawOffsetArc). arc_arc_meeting (angled c.args.current) x c.args.shared_source_vertex c.args.eps) _ unknown c.arc_arc_meeting-shown.ensures c.trimmed_or_gap-boundary.ensures)
+    (arc_joins arc (Arc (angled c.args.current)) c.args.eps (λ (x : RawOffsetArc). arc_arc_meeting (angled c.args.current) x c.args.shared_source_vertex c.args.eps) _ unknown c.arc_arc_meeting-shown.ensures c.trimmed_or_gap-in-Arc.ensures)
 
 pub returns-in-Collapsed : goal.returns-in-Collapsed
 unfolding ruled_boundary

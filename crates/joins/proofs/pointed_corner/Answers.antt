@@ -1,5 +1,6 @@
 -- `joins::pointed_corner` meets its contract. Assumes nothing.
 use mathlib.Core.Path.{refl}
+use borrow.Author.Rules.{rules}
 use Rattle.floats.proofs.Choice.{yes, no, told}
 use Rattle.joins.proofs.pointed_corner.Goals as goal
 
@@ -9,8 +10,5 @@ returns-then-not-is_outer_turn c = no _ _ _ (told c.is_outer_turn.ensures c.if-n
 pub returns-in-Line : goal.returns-in-Line
 returns-in-Line c = yes _ _ _ (told c.is_outer_turn.ensures c.if-not-is_outer_turn.false) (rw c.in-Line.is c.corner_from_line.ensures)
 
-pub returns-in-Arc : goal.returns-in-Arc
-returns-in-Arc c = yes _ _ _ (told c.is_outer_turn.ensures c.if-not-is_outer_turn.false) (rw c.in-Arc.is refl)
-
-pub returns-in-Collapsed : goal.returns-in-Collapsed
-returns-in-Collapsed c = yes _ _ _ (told c.is_outer_turn.ensures c.if-not-is_outer_turn.false) (rw c.in-Collapsed.is refl)
+pub returns : goal.returns
+returns c = yes _ _ _ (told c.is_outer_turn.ensures c.if-not-is_outer_turn.false) (search rules)

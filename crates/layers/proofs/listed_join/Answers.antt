@@ -1,6 +1,7 @@
 -- `layers::listed_join` meets its contract. Assumes nothing.
 use Prim.Native.Nat.{◌≤◌}
 use native.Mathlib.Omega.{arith}
+use Rattle.std.specs.Prelude.{Option, Some, None}
 use Rattle.meetings.specs.declared.ArcRule.{ArcRule}
 use Rattle.meetings.specs.declared.ArcRule.TheVariants as Rule
 use Rattle.meetings.specs.Rules.{rule_number}
@@ -21,23 +22,23 @@ cause-small Cause.ZeroTangent = omega arith
 cause-small Cause.SameDirection = omega arith
 cause-small Cause.OuterPoint = omega arith
 
-rule-small : (r : ArcRule) → rule_number r ≤ 4
-rule-small Rule.NoRule = omega arith
-rule-small Rule.StartMatched = omega arith
-rule-small Rule.EndMatched = omega arith
-rule-small Rule.Inside = omega arith
-rule-small Rule.PastEnd = omega arith
+rule-small : (r : Option ArcRule) → rule_number r ≤ 4
+rule-small None = omega arith
+rule-small (Some Rule.StartMatched) = omega arith
+rule-small (Some Rule.EndMatched) = omega arith
+rule-small (Some Rule.Inside) = omega arith
+rule-small (Some Rule.PastEnd) = omega arith
 
 pub overflow_mul-result : goal.overflow_mul-result
 overflow_mul-result c = omega (arith, cause-small c.args.boundary.cause, c.cause_number.ensures)
 
 pub overflow_mul-result-2 : goal.overflow_mul-result-2
-overflow_mul-result-2 c = omega (arith, rule-small c.args.boundary.current_rule, c.number.ensures)
+overflow_mul-result-2 c = omega (arith, rule-small c.args.boundary.current_rule, c.rule_number.ensures)
 
 pub overflow_add-result : goal.overflow_add-result
 overflow_add-result c =
     let j = c.args.boundary in
-    omega (arith, cause-small j.cause, rule-small j.current_rule, c.cause_number.ensures, c.number.ensures)
+    omega (arith, cause-small j.cause, rule-small j.current_rule, c.cause_number.ensures, c.rule_number.ensures)
 
 pub overflow_add-result-2 : goal.overflow_add-result-2
 overflow_add-result-2 c =
@@ -48,9 +49,9 @@ overflow_add-result-2 c =
       rule-small j.current_rule,
       rule-small j.next_rule,
       c.cause_number.ensures,
-      c.number.ensures,
-      c.number-2.ensures,
+      c.rule_number.ensures,
+      c.rule_number-2.ensures,
     )
 
 pub returns : goal.returns
-returns c = simp (c.cause_number.ensures, c.number.ensures, c.number-2.ensures)
+returns c = simp (c.cause_number.ensures, c.rule_number.ensures, c.rule_number-2.ensures)

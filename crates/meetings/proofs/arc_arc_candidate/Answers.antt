@@ -8,13 +8,13 @@ use Rattle.meetings.proofs.arc_arc_candidate.Goals as goal
 
 pub arc_param_at-on_current-requires : goal.arc_param_at-on_current-requires
 arc_param_at-on_current-requires c = record {
-  start_angle_value = rw c.starts_and_point-seen.ensures;
+  start_angle_value = rw c.starts_and_point.ensures;
   off_ends = λ apart. (c.arc_arc_point-snapped.ensures.off_ends apart).0;
 }
 
 pub arc_param_at-on_next-requires : goal.arc_param_at-on_next-requires
 arc_param_at-on_next-requires c = record {
-  start_angle_value = rw c.starts_and_point-seen.ensures;
+  start_angle_value = rw c.starts_and_point.ensures;
   off_ends = λ apart. (c.arc_arc_point-snapped.ensures.off_ends apart).1;
 }
 
@@ -33,8 +33,8 @@ returns c =
         next.rule-current_rule.ensures,
         next.param-s.ensures,
         current.arc_param_at-on_current.ensures,
-        s.starts_and_point-seen.ensures,
+        s.starts_and_point.ensures,
         s.before.before.arc_arc_point-snapped.ensures.point_value,
       ));
-      seen = remembered s.before.before.before.args.next (rw s.starts_and_point-seen.ensures);
+      seen = remembered s.before.before.before.args.next (rw s.starts_and_point.ensures);
     }

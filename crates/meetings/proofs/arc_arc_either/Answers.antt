@@ -2,8 +2,8 @@
 use Rattle.meetings.proofs.Nearer.{kept, tried}
 use Rattle.meetings.proofs.arc_arc_either.Goals as goal
 
-pub returns-then-is_at : goal.returns-then-is_at
-returns-then-is_at c = kept _ _ _ _ _ _ c.arc_arc_candidate-first.ensures c.is_at.ensures c.if-is_at.true
+pub returns-then-is_ok : goal.returns-then-is_ok
+returns-then-is_ok c = kept _ _ _ _ _ _ c.arc_arc_candidate-first.ensures c.is_ok.ensures.value c.if-is_ok.true
 
 pub returns : goal.returns
-returns c = tried _ _ _ _ _ _ c.arc_arc_candidate-first.ensures c.is_at.ensures c.if-is_at.false c.arc_arc_candidate.ensures
+returns c = tried _ _ _ _ _ _ c.arc_arc_candidate-first.ensures c.is_ok.ensures.value c.if-is_ok.false c.arc_arc_candidate.ensures

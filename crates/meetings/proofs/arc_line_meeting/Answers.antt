@@ -1,5 +1,6 @@
 -- `arc_line_meeting` meets its contract. Assumes nothing.
 use mathlib.Core.Path.{refl}
+use borrow.Author.Rules.{rules}
 use Rattle.meetings.specs.Meetings.{arc_line_meeting}
 use Rattle.meetings.proofs.Ruled.{ruled-exchanged}
 use Rattle.meetings.proofs.arc_line_meeting.Goals as goal
@@ -7,14 +8,10 @@ use Rattle.meetings.proofs.arc_line_meeting.Goals as goal
 pub line_circle_meeting-shown-requires : goal.line_circle_meeting-shown-requires
 line_circle_meeting-shown-requires c = (refl, refl, refl)
 
-pub returns-in-At : goal.returns-in-At
+pub returns-in_err-meeting : goal.returns-in_err-meeting
 unfolding arc_line_meeting
-returns-in-At c = rw (← ruled-exchanged, ← c.line_circle_meeting-shown.ensures.met, c.in-At.is) refl
+returns-in_err-meeting c = rw (← ruled-exchanged, ← c.line_circle_meeting-shown.ensures.met, c.in_err-meeting.was) (search rules)
 
-pub returns-in-NoMeeting : goal.returns-in-NoMeeting
+pub returns : goal.returns
 unfolding arc_line_meeting
-returns-in-NoMeeting c = rw (← ruled-exchanged, ← c.line_circle_meeting-shown.ensures.met, c.in-NoMeeting.is) refl
-
-pub returns-in-CandidatesMissed : goal.returns-in-CandidatesMissed
-unfolding arc_line_meeting
-returns-in-CandidatesMissed c = rw (← ruled-exchanged, ← c.line_circle_meeting-shown.ensures.met, c.in-CandidatesMissed.is) refl
+returns c = rw (← ruled-exchanged, ← c.line_circle_meeting-shown.ensures.met, c.in_ok-meeting.was) refl

@@ -17,10 +17,10 @@ pub enum_told-1 : goal.enum_told-1
 unfolding line_arc_at
 enum_told-1 c = search rules
 
-pub returns-in-Usable : goal.returns-in-Usable
+pub returns-in-Some : goal.returns-in-Some
 unfolding line_arc_at
-returns-in-Usable c = rw (ruled_where, ← c.sub.ensures, ← c.length_squared.ensures, ← c.usable_line_param-line_param.ensures, c.in-Usable.is, ← c.line_arc_point.ensures.point_value) c.with_arc_param.ensures
+returns-in-Some c = rw (ruled_where, ← c.sub.ensures, ← c.length_squared.ensures, ← c.usable_line_param-line_param.ensures, c.in-Some.is, ← c.line_arc_point.ensures.point_value) c.with_arc_param.ensures
 
-pub returns-in-Missed : goal.returns-in-Missed
+pub returns-in-None : goal.returns-in-None
 unfolding line_arc_at
-returns-in-Missed c = rw (ruled_where, ← c.sub.ensures, ← c.length_squared.ensures, ← c.usable_line_param-line_param.ensures, c.in-Missed.is) (record { met = refl; seen = refl })
+returns-in-None c = rw (ruled_where, ← c.sub.ensures, ← c.length_squared.ensures, ← c.usable_line_param-line_param.ensures, c.in-None.is) (record { met = refl; seen = refl })

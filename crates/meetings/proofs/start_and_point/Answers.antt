@@ -9,4 +9,4 @@ returns-then-seen c = rw (← known c.args.arc c.if-seen.true) (simp (c.directio
 
 pub returns : goal.returns
 unfolding angle_of
-returns c = rw (← unknown c.args.arc c.if-seen.false) (simp (c.two_directions.ensures, c.sub-s.ensures, c.sub-p.ensures))
+returns c = rw (← unknown c.args.arc c.if-seen.false) (simp (c.directions.ensures, c.sub.ensures, c.sub-p.ensures))

@@ -7,10 +7,10 @@ use Rattle.meetings.proofs.usable_arc_param.Goals as goal
 pub arc_param_at-requires : goal.arc_param_at-requires
 unfolding usable_arc_param arc_param_at
 arc_param_at-requires c = record {
-  start_angle_value = rw c.start_and_point-seen.ensures;
+  start_angle_value = rw c.start_and_point.ensures;
   off_ends = λ h. absurd (false≢true h);
 }
 
 pub returns : goal.returns
 unfolding usable_arc_param arc_param_at
-returns c = simp (c.arc_param_at.ensures, c.start_and_point-seen.ensures)
+returns c = simp (c.arc_param_at.ensures, c.start_and_point.ensures)

@@ -6,7 +6,7 @@ use Rattle.meetings.proofs.with_arc_param.Goals as goal
 
 pub arc_param_at-granted-requires : goal.arc_param_at-granted-requires
 arc_param_at-granted-requires c = record {
-  start_angle_value = rw c.start_and_point-seen.ensures;
+  start_angle_value = rw c.start_and_point.ensures;
   off_ends = c.requires;
 }
 
@@ -14,6 +14,6 @@ pub returns : goal.returns
 unfolding usable_arc_param arc_param_at
 returns c =
     record {
-      met = simp (c.met_where-met.ensures, c.rule-rule.ensures, c.param-t.ensures, c.arc_param_at-granted.ensures, c.start_and_point-seen.ensures);
-      seen = remembered c.args.arc (rw c.start_and_point-seen.ensures);
+      met = simp (c.met_where.ensures, c.rule.ensures, c.param.ensures, c.arc_param_at-granted.ensures, c.start_and_point.ensures);
+      seen = remembered c.args.arc (rw c.start_and_point.ensures);
     }

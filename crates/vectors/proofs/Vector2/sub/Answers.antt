@@ -1,8 +1,0 @@
--- `vectors::Vector2::sub` meets its contract. Assumes nothing.
-use mathlib.Core.Path.{refl}
-use Rattle.vectors.specs.Plane.{◌⊟◌}
-use Rattle.vectors.proofs.Vector2.sub.Goals as goal
-
-pub returns : goal.returns
-unfolding ◌⊟◌
-returns c = refl

@@ -1,0 +1,8 @@
+-- `mul` of `Vector2` meets its contract. Assumes nothing.
+use mathlib.Core.Path.{refl}
+use Rattle.vectors.specs.Plane.{◌⊡◌}
+use Rattle.vectors.proofs.Vector2MulF64.mul.Goals as goal
+
+pub returns : goal.returns
+unfolding ◌⊡◌
+returns c = refl
