@@ -8,6 +8,7 @@ ghost use Rattle.floats.specs.Choice.{when◌give◌else◌};
 ghost use Rattle.compare.specs.Compare.{Output as Lent, output, points_of, differ, flag_at, fields_at, any_of, code_of, entries_for, entries_to, number_in, code_in, is_even, is_many, has_room, at_front, outcome, listing, compare_of, none, marks_number};
 
 use refusals::Refusal;
+use source::Rows;
 use std::marker::Model;
 
 // No output has more: three for each vertex of the largest source.
@@ -107,8 +108,7 @@ impl<'a> Output<'a> {
     fn is_even(&self) -> bool
         ensures { result ≡ is_even self.now }
     {
-        let n = self.numbers.len();
-        source::is_whole(false, n, 0, 0)
+        Rows(self.numbers).is_whole()
             && self.flags.len() == source::segment_count(self.vertices(), self.closed)
     }
 

@@ -8,7 +8,10 @@
 
 use job::RawOffsetAnswer;
 use moves::RawOffsetResult;
-use segments::{Corners, Settings};
+use refusals::Answer;
+use segments::Settings;
+use sheet::{Marks, RowsMut};
+use source::Rows;
 use words::{print, print_word, read_word};
 
 // What stands in each buffer before a job.
@@ -72,7 +75,7 @@ fn print_places<T: Copy, W: Fn(T) -> u64 + Drop, P: Fn(u64) + Drop>(
 
 // 01's number and place, the two counts, and 1 for closed.
 fn print_answer(answer: RawOffsetAnswer) {
-    let r = answer.result();
+    let r = job::result_in(answer);
     let _written = io::print_decimal(1, answer.number() as u64);
     print_count(answer.place() as u64);
     print_count(r.vertices as u64);
@@ -93,7 +96,7 @@ fn segments_drawn(r: RawOffsetResult) -> u32 {
 
 // The drawing whose places are shown: none of a refusal or of a long one.
 fn shown(answer: RawOffsetAnswer) -> RawOffsetResult {
-    let r = answer.result();
+    let r = job::result_in(answer);
     if r.vertices <= MOST_SHOWN {
         return r;
     }
@@ -123,42 +126,6 @@ fn print_outcome(
     print(b"\n");
 }
 
-// In the mode of its settings.
-fn offset(
-    source: &[f64],
-    closed: bool,
-    settings: Settings,
-    vertices: &mut [f64],
-    flags: &mut [u8],
-    indexes: &mut [u32],
-    origins: &mut [u32],
-) -> RawOffsetAnswer {
-    let corners = settings.corners;
-    match corners {
-        Corners::Round => job::create_raw_offset(
-            source,
-            closed,
-            settings.offset,
-            settings.eps,
-            vertices,
-            flags,
-            indexes,
-            origins,
-        ),
-        Corners::Pointed { ratio } => job::create_raw_offset_pointed(
-            source,
-            closed,
-            settings.offset,
-            settings.eps,
-            ratio,
-            vertices,
-            flags,
-            indexes,
-            origins,
-        ),
-    }
-}
-
 // Works one job on the first places of the buffers, and prints what all of them hold then.
 fn job(
     lent: Lent,
@@ -175,14 +142,20 @@ fn job(
     let flags_lent = lent.flags.min(flags.len());
     let indexes_lent = lent.indexes.min(indexes.len());
     let origins_lent = lent.origins.min(origins.len());
-    let answer = offset(
-        &source[..count],
+    let mut rows = RowsMut(&mut vertices[..numbers_lent]);
+    let mut marks = Marks {
+        flags: &mut flags[..flags_lent],
+        indexes: &mut indexes[..indexes_lent],
+        origins: &mut origins[..origins_lent],
+    };
+    let answer = job::create_raw_offset(
+        Rows(&source[..count]),
         closed,
-        settings,
-        &mut vertices[..numbers_lent],
-        &mut flags[..flags_lent],
-        &mut indexes[..indexes_lent],
-        &mut origins[..origins_lent],
+        settings.offset,
+        settings.eps,
+        settings.corners,
+        &mut rows,
+        &mut marks,
     );
     print_outcome(answer, vertices, flags, indexes, origins);
 }

@@ -23,6 +23,7 @@ use packed::Text;
 use pieces::{DrawAnswer, OpenJob};
 use refusals::Refusal;
 use segments::{PlineVertex, Settings};
+use sheet::{Marks, RowsMut};
 
 // What a step leaves: the job, whether a vertex may follow, and how long its text is.
 #[derive(Clone, Copy)]
@@ -148,14 +149,13 @@ fn draw(job: OpenJob, bytes: &[u8], text: &mut Text) -> Step
     let mut flags = [0u8; 3];
     let mut indexes = [0u32; 3];
     let mut origins = [0u32; 3];
-    let called = pieces::draw(
-        job,
-        &source,
-        &mut vertices,
-        &mut flags,
-        &mut indexes,
-        &mut origins,
-    );
+    let mut rows = RowsMut(&mut vertices);
+    let mut marks = Marks {
+        flags: &mut flags,
+        indexes: &mut indexes,
+        origins: &mut origins,
+    };
+    let called = pieces::draw(job, &source, &mut rows, &mut marks);
     let answer = called.answer;
     let after = called.job;
     if answer.number != 0 {
@@ -178,7 +178,13 @@ fn end(job: OpenJob, text: &mut Text) -> Step
     let mut flags = [0u8; 3];
     let mut indexes = [0u32; 3];
     let mut origins = [0u32; 3];
-    let called = pieces::end(job, &mut vertices, &mut flags, &mut indexes, &mut origins);
+    let mut rows = RowsMut(&mut vertices);
+    let mut marks = Marks {
+        flags: &mut flags,
+        indexes: &mut indexes,
+        origins: &mut origins,
+    };
+    let called = pieces::end(job, &mut rows, &mut marks);
     let answer = called.answer;
     let after = called.job;
     if answer.number != 0 {

@@ -7,12 +7,11 @@ use native.Mathlib.Omega.{arith}
 use borrow.Author.Tests.{eq-eqb, ne_eqb}
 use lib.ListN.{length}
 use lib.Ieee.{Float}
-use Rattle.std.specs.Prelude.{Result}
+use Rattle.std.specs.Prelude.{Result, Ok, Err}
 use Rattle.refusals.specs.declared.Refusal.{Refusal}
 use Rattle.segments.specs.declared.Corners.{Corners}
 use Rattle.segments.specs.declared.Corners.TheVariants.{Round, Pointed}
 use Rattle.segments.specs.declared.Settings.{Settings}
-use Rattle.segments.specs.Modes.{round_by, pointed_by}
 use Rattle.floats.proofs.Choice.{yes, no}
 use Rattle.source.specs.Source.{Lent, rows, segments_of}
 use Rattle.source.proofs.Source.{length-vertices}
@@ -22,7 +21,8 @@ use Rattle.moves.specs.declared.RawOffsetResult.{RawOffsetResult}
 use Rattle.sheet.specs.Buffers.{Buffers}
 use Rattle.sheet.proofs.Products.{product_most}
 use Rattle.job.specs.Job.{Outcome, result_in, ending, job_of}
-use Rattle.refusals.specs.Table.{number, place}
+use Rattle.refusals.specs.Table.{number, number_of, place_of}
+use Rattle.refusals.proofs.Table.{some_number}
 use Rattle.walk.specs.Walk.{moves_a_segment}
 use Rattle.job.specs.Rows.{Job, count, places}
 use Rattle.job.proofs.Fits.{vertices-fit}
@@ -45,16 +45,7 @@ module _ (r : RawOffsetResult) (vertices : List Float) (flags : List ℕ) (origi
       let most = segments-most r.closed r.vertices in
       sym (printed-text n (origins_text n origins) (omega arith)) ∙ rw e
 
--- ---- the two calls, each for its corners
-
-module _ (s : Lent) (closed : Bool) (σ : Settings) (old : Buffers) where
-  pub by-round : σ.corners ≡ Round → job_of s closed (round_by σ.offset σ.eps) old ≡ job_of s closed σ old
-  by-round e = ap (λ c. job_of s closed (record { offset = σ.offset; eps = σ.eps; corners = c }) old) (sym e)
-
-  pub by-pointed : {ratio : Float} → σ.corners ≡ Pointed ratio → job_of s closed (pointed_by σ.offset σ.eps ratio) old ≡ job_of s closed σ old
-  by-pointed e = ap (λ c. job_of s closed (record { offset = σ.offset; eps = σ.eps; corners = c }) old) (sym e)
-
--- ---- and of any
+-- ---- a job, and its answer
 
 -- the job over blank buffers
 abbrev pub blank_job : List Float → Bool → Settings → Job
@@ -73,20 +64,26 @@ places-most j =
 
 module _ (s : List Float) (closed : Bool) (σ : Settings) where
   module _ {a : Result RawOffsetResult Refusal} {b : Buffers} (ends : ending a b ≡ job_of (rows s) closed σ blank) where
-    pub few-printed : length s ≤ 1536 → {r : RawOffsetResult} → r ≡ result_in a → r.vertices ≤ 1536
-    few-printed h {r} e =
-        let f = vertices-fit (blank_job s closed σ) in
-        let m = places-most (blank_job s closed σ) in
-        let l = length-vertices s in
-        rw (e, ap (λ (o : Outcome). o.answer) ends) (omega arith)
+    module _ {r : RawOffsetResult} (is : a ≡ Ok r) where
+      kept : r ≡ result_in a
+      kept = ap (λ (x : Result RawOffsetResult Refusal). result_in x) (sym is)
 
-    module _ (asked : Asked) {n : ℕ} (numbered : n ≡ number a) where
-      pub done-text : n ≡ 0 → {r : RawOffsetResult} → r ≡ result_in a → answer_text asked (job_of (rows s) closed σ blank) ≡ done_text asked r (numbers_in b.vertices) b.flags b.origins
-      unfolding answer_text
-      done-text z {r} e = sym (yes _ _ _ (eq-eqb _ _ (ap (λ (o : Outcome). number o.answer) (sym ends) ∙ sym numbered ∙ z)) (rw (← ends, e)))
+      pub few-printed : length s ≤ 1536 → r.vertices ≤ 1536
+      few-printed h =
+          let f = vertices-fit (blank_job s closed σ) in
+          let m = places-most (blank_job s closed σ) in
+          let l = length-vertices s in
+          rw (kept, ap (λ (o : Outcome). o.answer) ends) (omega arith)
 
-      pub refusal-text : (n ≡ 0 → ⊥) → {k : ℕ} → k ≡ place a → answer_text asked (job_of (rows s) closed σ blank) ≡ refusal_of n k
+      pub done-text : (asked : Asked) → answer_text asked (job_of (rows s) closed σ blank) ≡ done_text asked r (numbers_in b.vertices) b.flags b.origins
       unfolding answer_text
-      refusal-text z {k} e =
-          let not_done : number (job_of (rows s) closed σ blank).answer ≡ 0 → ⊥ = λ q. z (numbered ∙ ap (λ (o : Outcome). number o.answer) ends ∙ q) in
-          sym (no _ _ _ (ne_eqb _ _ not_done) (rw (← ends, ← numbered, ← e)))
+      done-text asked =
+          let told = ap (λ (o : Outcome). number o.answer) (sym ends) ∙ ap (λ (x : Result RawOffsetResult Refusal). number x) is in
+          sym (yes _ _ _ (eq-eqb _ _ told) (rw (← ends, kept)))
+
+    pub refusal-text : {r : Refusal} → a ≡ Err r → (asked : Asked) → answer_text asked (job_of (rows s) closed σ blank) ≡ refusal_of (number_of r) (place_of r)
+    unfolding answer_text
+    refusal-text {r} is asked =
+        let told = ap (λ (o : Outcome). o.answer) (sym ends) ∙ is in
+        let not_done : number (job_of (rows s) closed σ blank).answer ≡ 0 → ⊥ = λ q. some_number r (ap (λ (x : Result RawOffsetResult Refusal). number x) (sym told) ∙ q) in
+        no _ _ _ (ne_eqb _ _ not_done) (rw told)

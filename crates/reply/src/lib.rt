@@ -7,16 +7,16 @@ ghost use Rattle.std.specs.Prelude.{◌≡◌, ◌++◌, ◌≤◌, length, drop
 ghost use Rattle.io.specs.Counts.{IsPrefixLen};
 ghost use Rattle.moves.specs.Origins.{origins_in};
 ghost use Rattle.source.specs.Source.{rows};
-ghost use Rattle.sheet.specs.Buffers.{buffers};
-ghost use Rattle.job.specs.Job.{ending, job_of};
+ghost use Rattle.job.specs.Job.{job_of};
 ghost use Rattle.packed.specs.Writes.{HasRoom, Writes};
 ghost use Rattle.reply.specs.Reply.{blank, done_text, answer_text, reply_by, reply_of, pointed_reply_of, origins_reply_of};
 
-use job::RawOffsetAnswer;
 use moves::RawOffsetResult;
 use packed::{Form, Text};
 use refusals::Refusal;
-use segments::{Corners, Settings};
+use segments::Settings;
+use sheet::{Marks, RowsMut};
+use source::Rows;
 
 // Room for the offset of 512 vertices, closed: three vertices a segment.
 const VERTICES: usize = 4608;
@@ -85,59 +85,24 @@ fn work(asked: Asked, source: &[f64], closed: bool, settings: Settings, text: &m
     let mut flags = [0u8; SEGMENTS];
     let mut indexes = [0u32; SEGMENTS];
     let mut origins = [0u32; SEGMENTS];
-    let answer = create_raw_offset(
-        source,
+    let mut rows = RowsMut(&mut vertices);
+    let mut marks = Marks {
+        flags: &mut flags,
+        indexes: &mut indexes,
+        origins: &mut origins,
+    };
+    let answer = job::create_raw_offset(
+        Rows(source),
         closed,
-        settings,
-        &mut vertices,
-        &mut flags,
-        &mut indexes,
-        &mut origins,
+        settings.offset,
+        settings.eps,
+        settings.corners,
+        &mut rows,
+        &mut marks,
     );
-    let number = answer.number();
-    if number == 0 {
-        put_done(asked, answer.result(), &vertices, &flags, &origins, text);
-    } else {
-        text.refusal(number, answer.place());
-    }
-}
-
-// In either mode.
-fn create_raw_offset(
-    source: &[f64],
-    closed: bool,
-    settings: Settings,
-    vertices: &mut [f64],
-    flags: &mut [u8],
-    indexes: &mut [u32],
-    origins: &mut [u32],
-) -> RawOffsetAnswer
-    ensures { ending result (buffers (rows vertices.new) flags.new indexes.new (origins_in origins.new))
-        ≡ job_of (rows source.now) closed settings (buffers (rows vertices.old) flags.old indexes.old (origins_in origins.old)) }
-{
-    let corners = settings.corners;
-    match corners {
-        Corners::Round => job::create_raw_offset(
-            source,
-            closed,
-            settings.offset,
-            settings.eps,
-            vertices,
-            flags,
-            indexes,
-            origins,
-        ),
-        Corners::Pointed { ratio } => job::create_raw_offset_pointed(
-            source,
-            closed,
-            settings.offset,
-            settings.eps,
-            ratio,
-            vertices,
-            flags,
-            indexes,
-            origins,
-        ),
+    match answer {
+        Ok(r) => put_done(asked, r, &vertices, &flags, &origins, text),
+        Err(refusal) => text.refuse(refusal),
     }
 }
 

@@ -4,7 +4,7 @@ use Rattle.pen_reply.proofs.draw.Goals as goal
 
 pub returns-then-answer-ne0 : goal.returns-then-answer-ne0
 returns-then-answer-ne0 c =
-    let e = draw-refused _ _ c.numbers_in-source.ensures c.draw-called.ensures c.if-answer-ne0.true in
+    let e = draw-refused _ _ c.numbers_in-source.ensures c.draw-called.ensures.called c.if-answer-ne0.true in
     record {
       step = rw e c.refused.ensures.step;
       text = rw e c.refused.ensures.text;
@@ -12,7 +12,7 @@ returns-then-answer-ne0 c =
 
 pub returns : goal.returns
 returns c =
-    let e = draw-done _ _ c.numbers_in-source.ensures c.draw-called.ensures c.if-answer-ne0.false in
+    let e = draw-done _ _ c.numbers_in-source.ensures c.draw-called.ensures.called c.if-answer-ne0.false in
     record {
       step = rw e;
       text = rw e c.put_piece.ensures;

@@ -4,7 +4,7 @@ use Rattle.pen_reply.proofs.end.Goals as goal
 
 pub returns-then-answer-ne0 : goal.returns-then-answer-ne0
 returns-then-answer-ne0 c =
-    let e = end_refused _ c.end-called.ensures c.if-answer-ne0.true in
+    let e = end_refused _ c.end-called.ensures.called c.if-answer-ne0.true in
     record {
       step = rw e c.refused.ensures.step;
       text = rw e c.refused.ensures.text;
@@ -12,7 +12,7 @@ returns-then-answer-ne0 c =
 
 pub returns : goal.returns
 returns c =
-    let e = end-done _ c.end-called.ensures c.if-answer-ne0.false c.segments_before-before.ensures in
+    let e = end-done _ c.end-called.ensures.called c.if-answer-ne0.false c.segments_before-before.ensures in
     record {
       step = rw e;
       text = rw e c.put_closing.ensures;
