@@ -57,10 +57,10 @@ impl Memo {
     fn keep_two(&mut self, bulge: f64, next: f64) -> f64
         ensures { result ≡ sweep_of bulge }
     {
-        let [first, second] = angles::sweeps([bulge, next]);
-        self.keep(bulge, first);
-        self.keep(next, second);
-        first
+        let [sweep, of_next] = angles::sweeps([bulge, next]);
+        self.keep(bulge, sweep);
+        self.keep(next, of_next);
+        sweep
     }
 
     // The same with those of two more.
