@@ -34,8 +34,8 @@ pub struct Telling {
     pub reason: Reason,
     pub start_param: f64,
     pub end_param: f64,
-    pub start_rule: ArcRule,
-    pub end_rule: ArcRule,
+    pub start_rule: Option<ArcRule>,
+    pub end_rule: Option<ArcRule>,
 }
 
 // An answer in numbers, for callers: number and place of a refusal; whether it is a connector, its source
@@ -93,8 +93,8 @@ impl Telling {
             connector: u32::from(self.origin.is_connector()),
             source: self.origin.source().0,
             reason: self.reason.number(),
-            start_rule: self.start_rule.number(),
-            end_rule: self.end_rule.number(),
+            start_rule: meetings::rule_number(self.start_rule),
+            end_rule: meetings::rule_number(self.end_rule),
             start_param: self.start_param,
             end_param: self.end_param,
         }
@@ -130,8 +130,8 @@ impl Telling {
                 reason: stroke.reason,
                 start_param: 0.0,
                 end_param: 0.0,
-                start_rule: ArcRule::NoRule,
-                end_rule: ArcRule::NoRule,
+                start_rule: None,
+                end_rule: None,
             },
         }
     }
@@ -435,8 +435,8 @@ fn ask_copy(segments: usize, segment: OutputSegment) -> Result<Telling, Refusal>
             reason: Reason::Copied,
             start_param: 0.0,
             end_param: 0.0,
-            start_rule: ArcRule::NoRule,
-            end_rule: ArcRule::NoRule,
+            start_rule: None,
+            end_rule: None,
         });
     }
     Err(Refusal::NoSuchSegment)
