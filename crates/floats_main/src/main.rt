@@ -191,7 +191,7 @@ fn guessed(a: f64) {
 
 // x some units in the last place further on.
 fn further(x: f64, units: u64) -> f64 {
-    bits::number_of(std::num::wrapping_add_u64(bits::bits_of(x), units))
+    bits::number_of(bits::bits_of(x).wrapping_add(units))
 }
 
 // About the square of a guess: at it, at each number next to it, and some hundred units and some

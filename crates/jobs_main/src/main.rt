@@ -48,8 +48,7 @@ fn print_sum(sum: u64) {
 
 // A checksum that tells places apart: before each word the sum is added to itself turned by five.
 fn mixed(sum: u64, word: u64) -> u64 {
-    let turned = sum << 5 | sum >> 59;
-    std::num::wrapping_add_u64(std::num::wrapping_add_u64(turned, sum), word)
+    sum.rotate_left(5).wrapping_add(sum).wrapping_add(word)
 }
 
 // The first places as they stand, each as a word, and a checksum of all.
