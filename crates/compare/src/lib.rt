@@ -8,7 +8,7 @@ ghost use Rattle.floats.specs.Choice.{when◌give◌else◌};
 ghost use Rattle.compare.specs.Compare.{Output as Lent, output, points_of, differ, flag_at, fields_at, any_of, code_of, entries_for, entries_to, number_in, code_in, is_even, is_many, has_room, at_front, outcome, listing, compare_of, none, marks_number};
 
 use refusals::Refusal;
-use source::Rows;
+use source::{Rows, Vertices};
 use std::marker::Model;
 
 // No output has more: three for each vertex of the largest source.

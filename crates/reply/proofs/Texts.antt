@@ -86,4 +86,4 @@ module _ (s : List Float) (closed : Bool) (σ : Settings) where
     refusal-text {r} is asked =
         let told = ap (λ (o : Outcome). o.answer) (sym ends) ∙ is in
         let not_done : number (job_of (rows s) closed σ blank).answer ≡ 0 → ⊥ = λ q. some_number r (ap (λ (x : Result RawOffsetResult Refusal). number x) (sym told) ∙ q) in
-        no _ _ _ (ne_eqb _ _ not_done) (rw told)
+        sym (no _ _ _ (ne_eqb _ _ not_done) (rw told))
