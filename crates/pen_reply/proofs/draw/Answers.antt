@@ -1,4 +1,5 @@
 -- `draw` meets its contract. Assumes nothing.
+use borrow.Author.Rules.{rules}
 use Rattle.pen_reply.proofs.Steps.{draw-refused, draw-done}
 use Rattle.pen_reply.proofs.draw.Goals as goal
 
@@ -13,7 +14,8 @@ returns-then-answer-ne0 c =
 pub returns : goal.returns
 returns c =
     let e = draw-done _ _ c.numbers_in-source.ensures c.draw-called.ensures.called c.if-answer-ne0.false in
+    let h = c.put_piece.ensures in
     record {
-      step = rw e;
-      text = rw e c.put_piece.ensures;
+      step = search (rules, e);
+      text = rw e (search (rules, h));
     }

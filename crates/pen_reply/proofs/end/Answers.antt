@@ -1,4 +1,5 @@
 -- `end` meets its contract. Assumes nothing.
+use borrow.Author.Rules.{rules}
 use Rattle.pen_reply.proofs.Steps.{end_refused, end-done}
 use Rattle.pen_reply.proofs.end.Goals as goal
 
@@ -13,7 +14,8 @@ returns-then-answer-ne0 c =
 pub returns : goal.returns
 returns c =
     let e = end-done _ c.end-called.ensures.called c.if-answer-ne0.false c.segments_before-before.ensures in
+    let h = c.put_closing.ensures in
     record {
-      step = rw e;
-      text = rw e c.put_closing.ensures;
+      step = search (rules, e);
+      text = rw e (search (rules, h));
     }

@@ -2,7 +2,8 @@
 use mathlib.Core.Path.{◌≡◌, sym, ap, ◌∙◌}
 use native.Mathlib.Omega.{arith}
 use Rattle.refusals.specs.Table.{number}
-use Rattle.pieces.proofs.Went.{some_number, refused-early, refused-endless, not-refused, soon_taken, strokes-fit, went_old, went-refused, went-taken}
+use Rattle.refusals.proofs.Table.{some_number}
+use Rattle.pieces.proofs.Went.{refused-early, refused-endless, not-refused, soon_taken, strokes-fit, went_old, went-refused, went-taken}
 use Rattle.sheet.proofs.Storing.{room_fewer}
 use Rattle.pieces.proofs.take_vertex.Goals as goal
 
