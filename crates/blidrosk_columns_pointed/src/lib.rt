@@ -49,6 +49,14 @@ pub extern "C" fn blidrosk_raw_offset_columns_pointed(
         indexes,
         origins,
     };
-    let a = job::create_raw_offset(source, closed, offset, eps, Pointed { ratio }, &mut columns, &mut marks);
+    let a = job::create_raw_offset(
+        source,
+        closed,
+        offset,
+        eps,
+        Pointed { ratio },
+        &mut columns,
+        &mut marks,
+    );
     job::hand(a, answer)
 }

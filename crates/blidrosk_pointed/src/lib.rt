@@ -38,6 +38,14 @@ pub extern "C" fn blidrosk_raw_offset_pointed(
         indexes,
         origins,
     };
-    let a = job::create_raw_offset(Rows(source), closed, offset, eps, Pointed { ratio }, &mut rows, &mut marks);
+    let a = job::create_raw_offset(
+        Rows(source),
+        closed,
+        offset,
+        eps,
+        Pointed { ratio },
+        &mut rows,
+        &mut marks,
+    );
     job::hand(a, answer)
 }
