@@ -14,6 +14,7 @@ use borrow.Author.Tests.{eq-eqb, ne_eqb}
 use lib.Dec.{eqb, eqb-suc-zero}
 use lib.ListN.{length, get_or}
 use lib.Ieee.{Float}
+use Rattle.std.specs.Prelude.{Option}
 use Rattle.floats.specs.Choice.{when◌give◌else◌, ◌and◌}
 use Rattle.vectors.specs.declared.Vector2.{Vector2}
 use Rattle.segments.specs.declared.PlineVertex.{PlineVertex}
@@ -180,12 +181,12 @@ module _ (g h : RawOffsetSeg) (shared : Vector2) (σ : Settings) where
   edge_end : end_at its ≡ end_at (ruled_join g h shared σ)
   edge_end =
       let e = (corner_edges g h shared σ).ends in
-      ap (λ (p : Float). record { param = p; rule = its.current_rule }) e.0 ∙ ap (λ (r : ArcRule). record { param = (ruled_join g h shared σ).current_param; rule = r }) e.1
+      ap (λ (p : Float). record { param = p; rule = its.current_rule }) e.0 ∙ ap (λ (r : Option ArcRule). record { param = (ruled_join g h shared σ).current_param; rule = r }) e.1
 
   edge_start : start_at its ≡ start_at (ruled_join g h shared σ)
   edge_start =
       let e = (corner_edges g h shared σ).starts in
-      ap (λ (p : Float). record { param = p; rule = its.next_rule }) e.0 ∙ ap (λ (r : ArcRule). record { param = (ruled_join g h shared σ).next_param; rule = r }) e.1
+      ap (λ (p : Float). record { param = p; rule = its.next_rule }) e.0 ∙ ap (λ (r : Option ArcRule). record { param = (ruled_join g h shared σ).next_param; rule = r }) e.1
 
 -- a span and the connectors after it are moves of one segment
 own_rows : {starts ends : List Edge} (i : ℕ) (j : JoinBoundary) (span : Move) {s e : Edge} → segment_of span.origin ≡ i → Rows starts ends i s e

@@ -5,11 +5,11 @@ use mathlib.Core.List.{List, [], ◌∷◌, map}
 use mathlib.Core.Bool.{Bool, true, false}
 use Prim.Native.Nat.{ℕ}
 use lib.Ieee.{Float, binary64, of_bits}
+use Rattle.std.specs.Prelude.{None}
 use Rattle.floats.specs.Binary64.{zero, one, two, four}
 use Rattle.segments.specs.declared.Settings.{Settings}
 use Rattle.segments.specs.Modes.{round_by, pointed_by}
 use Rattle.source.specs.Source.{rows as lent}
-use Rattle.meetings.specs.declared.ArcRule.TheVariants.{NoRule}
 use Rattle.joins.specs.Rules.{ruled_boundary}
 use Rattle.refusals.specs.declared.Refusal.TheVariants.{NoSuchSegment}
 use Rattle.moves.specs.declared.Origin.{Origin}
@@ -45,7 +45,7 @@ answer_of r = why_of (lent (flat r.points)) r.closed r.settings r.segment
 
 -- of straight segments no rule is told
 abbrev pub told : Origin → Reason → Float → Float → WhyAnswer
-told o r s t = Told (record { origin = o; reason = r; start_param = s; end_param = t; start_rule = NoRule; end_rule = NoRule })
+told o r s t = Told (record { origin = o; reason = r; start_param = s; end_param = t; start_rule = None; end_rule = None })
 
 abbrev pub none : WhyAnswer
 none = Refused NoSuchSegment

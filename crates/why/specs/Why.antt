@@ -1,13 +1,12 @@
 -- Why the flag of an output segment is set or clear (02's 2026-01): for a job, in rows or in columns (2026-08), and a number, which move that output segment is and for what
 -- reason. The moves are the kept ones of the walk that the job's drawing is drawn by, and the refusals are the job's own. Definitions only.
-use Rattle.std.specs.Prelude.{ℕ, zero, suc, List, [], ◌∷◌, Bool, true, not, eqb, ltb, length, get_or, Float}
+use Rattle.std.specs.Prelude.{ℕ, zero, suc, List, [], ◌∷◌, Bool, true, not, eqb, ltb, length, get_or, None, Float}
 use Rattle.std.specs.Float.Ieee.{eq}
 use Rattle.floats.specs.Binary64 as B
 use Rattle.floats.specs.Choice.{when◌give◌else◌}
 use Rattle.segments.specs.declared.Settings.{Settings}
 use Rattle.segments.specs.declared.PlineVertex.{PlineVertex}
 use Rattle.source.specs.Source.{Lent, vertices_in, is_whole, segments_of}
-use Rattle.meetings.specs.declared.ArcRule.TheVariants.{NoRule}
 use Rattle.meetings.specs.Rules.{rule_number}
 use Rattle.refusals.specs.declared.Refusal.TheVariants.{Ragged, NoSuchSegment}
 use Rattle.refusals.specs.Table.{number_of, place_of}
@@ -37,7 +36,7 @@ param_of r t = when eqb (reason_number r) 2 give t else B.zero
 abbrev pub telling_for : Edge → Edge → Reason → Origin → Telling
 telling_for s e r (Span i) =
     record { origin = Span i; reason = r; start_param = param_of r s.param; end_param = param_of r e.param; start_rule = s.rule; end_rule = e.rule }
-telling_for s e r (Connector i) = record { origin = Connector i; reason = r; start_param = B.zero; end_param = B.zero; start_rule = NoRule; end_rule = NoRule }
+telling_for s e r (Connector i) = record { origin = Connector i; reason = r; start_param = B.zero; end_param = B.zero; start_rule = None; end_rule = None }
 
 -- its source segment's span starts and ends where the rows say
 unfoldable pub telling_of : List Edge → List Edge → Reason → Origin → Telling

@@ -34,8 +34,8 @@ pub struct Telling {
     pub reason: Reason,
     pub start_param: f64,
     pub end_param: f64,
-    pub start_rule: ArcRule,
-    pub end_rule: ArcRule,
+    pub start_rule: Option<ArcRule>,
+    pub end_rule: Option<ArcRule>,
 }
 
 #[derive(Clone, Copy)]
@@ -96,16 +96,14 @@ impl Telling {
         let origin = self.origin;
         let source = origin.source();
         let reason = self.reason;
-        let start = self.start_rule;
-        let end = self.end_rule;
         WhyNumbers {
             number: 0,
             place: 0,
             connector: origin.is_connector() as u32,
             source: source.0,
             reason: reason.number(),
-            start_rule: start.number(),
-            end_rule: end.number(),
+            start_rule: meetings::rule_number(self.start_rule),
+            end_rule: meetings::rule_number(self.end_rule),
             start_param: self.start_param,
             end_param: self.end_param,
         }
@@ -148,8 +146,8 @@ impl Telling {
                 reason,
                 start_param: 0.0,
                 end_param: 0.0,
-                start_rule: ArcRule::NoRule,
-                end_rule: ArcRule::NoRule,
+                start_rule: None,
+                end_rule: None,
             },
         }
     }
@@ -451,8 +449,8 @@ fn ask_copy(segments: usize, segment: OutputSegment) -> WhyAnswer
             reason: Reason::Copied,
             start_param: 0.0,
             end_param: 0.0,
-            start_rule: ArcRule::NoRule,
-            end_rule: ArcRule::NoRule,
+            start_rule: None,
+            end_rule: None,
         });
     }
     WhyAnswer::Refused(Refusal::NoSuchSegment)

@@ -4,4 +4,4 @@ use Rattle.why.proofs.Telling.numbers.Goals as goal
 
 pub returns : goal.returns
 returns c =
-    rw (c.number-3.ensures, c.number-2.ensures, c.number.ensures, byte_bit, c.is_connector.ensures, c.source-source.ensures)
+    rw (c.rule_number-2.ensures, c.rule_number.ensures, c.number.ensures, byte_bit, c.is_connector.ensures, c.source-source.ensures)
