@@ -34,10 +34,10 @@ fn keep_two(keys: &mut [u64; 16], sweeps: &mut [f64; 16], bulge: f64, next: f64)
     requires { Memo keys.old sweeps.old }
     ensures { (result ≡ sweep_of bulge) × Memo keys.new sweeps.new }
 {
-    let [first, second] = angles::sweeps([bulge, next]);
-    keep(keys, sweeps, bulge, first);
-    keep(keys, sweeps, next, second);
-    first
+    let [own, of_next] = angles::sweeps([bulge, next]);
+    keep(keys, sweeps, bulge, own);
+    keep(keys, sweeps, next, of_next);
+    own
 }
 
 // The same with those of two more.
