@@ -1,6 +1,6 @@
 -- What steps of the code promise, an arc's start angle being known or not, and a point's angle and the point at a parameter being worked out before. No rule rests
 -- on these: the rules are `usable_arc_param` and `line_arc_candidate`. Definitions only.
-use Rattle.std.specs.Prelude.{◌≡◌, Bool, true, false, Some, None, Result, Ok, Err, Float}
+use Rattle.std.specs.Prelude.{◌≡◌, false, Some, None, Result, Err, Float}
 use Rattle.std.specs.Float.Ieee.{eq}
 use Rattle.floats.specs.Binary64.{◌⊘◌, zero}
 use Rattle.floats.specs.Choice.{when◌give◌else◌}
