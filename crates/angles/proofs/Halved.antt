@@ -42,6 +42,9 @@ all_halved (suc i) [] h = refl
 all_halved zero (x ∷ xs) h = absurd (omega arith)
 all_halved (suc i) (x ∷ xs) h = ap (λ (ys : List Float). halve x ∷ ys) (all_halved i xs (omega arith))
 
+pub as_many : (hs ks : List Halving) → tangents ks ≡ map halve (tangents hs) → length ks ≡ length hs
+as_many hs ks e = simp length-map at (ap length e)
+
 by_eighths : (hs : List Halving) → map (λ (h : Halving). atan_by_eighth h.x) hs ≡ map atan_by_eighth (tangents hs)
 by_eighths [] = refl
 by_eighths (h ∷ hs) = ap (λ (ys : List Float). atan_by_eighth h.x ∷ ys) (by_eighths hs)

@@ -7,10 +7,10 @@ use Rattle.angles.proofs.halve_all.Goals as goal
 
 pub loop-halving-init : goal.loop-halving-init
 unfolding halved_upto
-loop-halving-init c = refl
+loop-halving-init g c = refl
 
 pub loop-halving-preserved : goal.loop-halving-preserved
-loop-halving-preserved c = halved_next _ _ _ _ _ (omega arith) c.loop-halving.invariant c.halve.ensures
+loop-halving-preserved g c = halved_next _ _ _ _ _ (omega arith) c.loop-halving.invariant c.halve.ensures
 
 pub returns : goal.returns
-returns c = c.loop-halving.invariant ∙ all_halved _ _ (rw length-map (omega arith))
+returns g c = c.loop-halving.invariant ∙ all_halved _ _ (rw length-map (omega arith))

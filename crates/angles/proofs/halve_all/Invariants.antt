@@ -5,4 +5,4 @@ use Rattle.angles.proofs.Halved.{halved_upto}
 use Rattle.angles.proofs.halve_all.Given as goal
 
 abbrev pub invariant-loop-halving : goal.invariant-loop-halving
-invariant-loop-halving l = tangents l.halvings ≡ halved_upto l.halving-index (tangents l.fn.halvings)
+invariant-loop-halving g l = tangents l.halvings ≡ halved_upto l.halving-index (tangents l.fn.halvings)
