@@ -13,7 +13,7 @@ use Rattle.segments.specs.declared.Corners.{Corners}
 use Rattle.segments.specs.declared.Corners.TheVariants.{Round, Pointed}
 use Rattle.segments.specs.declared.Settings.{Settings}
 use Rattle.floats.proofs.Choice.{yes, no}
-use Rattle.source.specs.Source.{Lent, rows, segments_of}
+use Rattle.source.specs.Source.{rows, segments_of}
 use Rattle.source.proofs.Source.{length-vertices}
 use Rattle.source.proofs.Segments.{segments-most}
 use Rattle.moves.specs.declared.Origin.{Origin}

@@ -11,10 +11,9 @@ use Rattle.floats.specs.Binary64 as B
 use Rattle.segments.specs.declared.PlineVertex.{PlineVertex}
 use Rattle.source.specs.Source.{vertices_of, columns_of, Lent, rows, columns, vertices_in}
 use Rattle.source.proofs.Source.{length-vertices, length-columns, row_within, column_within}
-use Rattle.moves.specs.Origins.{origins_in}
 use Rattle.moves.specs.Drawing.{Drawing}
-use Rattle.sheet.specs.Buffers.{buffers, flat, xs_of, ys_of, bulges_of, padded, laid_in, shown}
-use Rattle.sheet.specs.InnerSteps.{Loans, Loaned, loans_of, lent, SameLoans, beyond, Held, held_by, Contents, held, fitting, making, blank, showing, put_at, bulging, bulge_at}
+use Rattle.sheet.specs.Buffers.{flat, xs_of, ys_of, bulges_of, padded, laid_in, shown}
+use Rattle.sheet.specs.InnerSteps.{Loans, Loaned, lent, SameLoans, beyond, Held, held_by, Contents, held, fitting, making, blank, showing, put_at, bulging, bulge_at}
 use Rattle.sheet.specs.declared.lent.Marks.{Marks}
 use Rattle.sheet.proofs.Flat.{flat_append, length-flat}
 
