@@ -60,12 +60,16 @@ pub extern "C" fn blidrosk_draw_vertices(
         ≡ call_handed (draw_call rec.old source.now (buffers (rows vertices.old) flags.old indexes.old (origins_in origins.old))) }
 {
     let mut rows = RowsMut(vertices);
-    let mut marks = Marks {
-        flags,
-        indexes,
-        origins,
-    };
-    let called = pieces::draw(*rec, source, &mut rows, &mut marks);
+    let called = pieces::draw(
+        *rec,
+        source,
+        &mut rows,
+        &mut Marks {
+            flags,
+            indexes,
+            origins,
+        },
+    );
     *rec = called.job;
     pieces::hand(called.answer, answer)
 }

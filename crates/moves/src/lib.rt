@@ -169,7 +169,6 @@ impl Move {
     }
 
     // The connector of the join after a segment.
-    #[tactic(auto, unfolding(crate::specs::Made::connector_move))]
     pub fn connector(source: SourceSegment, boundary: JoinBoundary) -> Move
         ensures { result ≡ connector_move source.0 boundary }
     {
@@ -250,7 +249,6 @@ impl Pen {
 
     // The decision on one move, before anything is counted: it is dropped where it ends within eps of
     // the last kept point.
-    #[tactic(auto, unfolding(crate::specs::InnerSteps::step_of))]
     pub fn step(self, m: Move, eps: f64) -> Stepped
         requires { self.number.0 + 1 < 2 ^ 32 }
         ensures { result ≡ step_of self m eps }

@@ -102,7 +102,7 @@ fn work(asked: Asked, source: &[f64], closed: bool, settings: Settings, text: &m
     );
     match answer {
         Ok(r) => put_done(asked, r, &vertices, &flags, &origins, text),
-        Err(refusal) => text.refuse(refusal),
+        Err(refusal) => text.refusal(refusal.number(), refusal.place()),
     }
 }
 

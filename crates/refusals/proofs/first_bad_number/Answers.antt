@@ -1,8 +1,9 @@
 -- `first_bad_number`: the loop keeps that the search from its place on gives what the search of all tests gives. Assumes nothing.
-use mathlib.Core.Path.{◌≡◌, ◌∙◌, ap}
+use mathlib.Core.Path.{◌≡◌, ◌∙◌, ap, sym}
 use mathlib.Core.Bool.{not}
 use Prim.Native.Nat.{◌+◌}
 use native.Mathlib.Omega.{arith}
+use borrow.Author.Rules.{rules}
 use Rattle.std.specs.Prelude.{Some}
 use Rattle.refusals.proofs.First.{first_skip, first_step, first_found, first-end}
 use Rattle.refusals.proofs.Numbers.{vertex_test, offset_test, eps_test, ratio_test, no-more_tests}
@@ -39,8 +40,8 @@ returns-then-not-good_corners g c =
     let ended : c.loop-k.k ≡ c.count-v.result = omega arith in
     let two : c.count-v.result + 2 ≡ c.count-v.result + 1 + 1 = omega arith in
     ap Some two
-    ∙ first_found _ _ (ratio_test _ _ _ c.count-v.ensures ∙ (cc))
-    ∙ first_step _ _ (eps_test _ _ _ c.count-v.ensures ∙ (cc))
+    ∙ first_found _ _ (ratio_test _ _ _ c.count-v.ensures ∙ ap not (sym c.good_corners.ensures) ∙ c.if-not-good_corners.true-raw)
+    ∙ first_step _ _ (eps_test _ _ _ c.count-v.ensures ∙ search rules)
     ∙ first_step _ _ (offset_test _ _ _ c.count-v.ensures ∙ (cc))
     ∙ rw ended at c.loop-k.invariant
 

@@ -13,4 +13,4 @@ returns-in-Ok c =
     rw e (search (rules, h))
 
 pub returns-in-Err : goal.returns-in-Err
-returns-in-Err c = rw (refusal-text _ _ _ c.create_raw_offset-answer.ensures.ending c.in-Err.is c.args.asked) c.refuse.ensures
+returns-in-Err c = rw (refusal-text _ _ _ c.create_raw_offset-answer.ensures.ending c.in-Err.is c.args.asked) (rw (c.number.ensures, c.place.ensures) at c.refusal.ensures)
