@@ -5,3 +5,4 @@ pub mod Turned
 pub mod Steps
 pub mod Samples
 pub mod Mapped
+pub mod Walk

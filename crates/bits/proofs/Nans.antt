@@ -1,10 +1,16 @@
 -- What the tests of the code tell of a NaN and of its patterns. Assumes nothing.
-use mathlib.Core.Path.{◌≡◌, refl, sym, ◌∙◌}
+use mathlib.Core.Path.{◌≡◌, refl, sym, ◌∙◌, subst}
 use mathlib.Core.Bool.{true, false≢true}
 use Prim.Native.Nat.{ℕ, ◌%◌, ◌<◌}
+use lib.Dec.{T}
 use borrow.Author.Tests.{lt-ltb}
-use lib.Ieee.{Float, nan, inf, fin, binary64, of_bits, is_nan}
+use lib.Ieee.{Float, nan, inf, fin, binary64, of_bits, is_nan, ne}
 use lib.Ieee.Bits.{nan_bits_is, nan_bits_above}
+use lib.Ieee.Compare.{differs_from_itself}
+
+-- differs from itself: a NaN
+pub is-nan : (x : Float) → ne x x ≡ true → x ≡ nan
+is-nan x h = differs_from_itself x (subst T (sym h) tt)
 
 pub only_nan : (x : Float) → is_nan x ≡ true → nan ≡ x
 unfolding is_nan

@@ -13,6 +13,14 @@ ghost use Rattle.pieces.specs.Handed.{handed_start, start_handed, handed_call, c
 use segments::Settings;
 use sheet::{Marks, RowsMut};
 
+// The record after a call, and the number returned: what a call by value gives that a thin call over a lent record
+// puts in its place (proofs/Lent.antt). The calls below need none: they take the record themselves.
+#[derive(Clone, Copy)]
+pub struct Handed {
+    pub job: pieces::OpenJob,
+    pub number: u32,
+}
+
 // Begins an open job with round corners, whatever the record holds, and returns the number of the
 // answer. `answer` is set to number, place, count of vertices, count of indexes, and count of segments.
 #[unsafe(no_mangle)]

@@ -13,3 +13,4 @@ pub mod Laws
 pub mod RootOrder
 pub mod Nearest
 pub mod Native
+pub mod Tested

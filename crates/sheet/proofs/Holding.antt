@@ -1,11 +1,12 @@
--- What lent numbers hold, in either layout: a vertex or a bulge stored in them (`put-row`, `put_column`), and what the buffers are where they hold a drawing (`held-shown`), and the
--- other way (`laid-rows`, `laid-columns`). Assumes nothing.
+-- What lent numbers hold, in either layout: a vertex or a bulge stored in them (`put-row`, `put_column`), a source copied into them list by list (`copied-rows`, `copied-columns`), and what
+-- the buffers are where they hold a drawing (`held-shown`), and the other way (`laid-rows`, `laid-columns`). Assumes nothing.
 use mathlib.Core.Path.{◌≡◌, refl, sym, ap, ◌∙◌}
+use mathlib.Core.Bool.{Bool, true, false}
 use mathlib.Core.List.{List, [], ◌∷◌, ◌++◌, map, map-append, append_assoc, append-nil}
 use Prim.Native.Nat.{ℕ, zero, suc, ◌+◌, ◌*◌, ◌-◌, ◌/◌, ◌≤◌, ◌<◌, min}
 use native.Mathlib.Omega.{arith}
-use lib.ListN.{length, set, drop, replicate, length-set, length-map}
-use lib.Seq.{drop-set-lt, drop-append-le, drop_at, drop-length}
+use lib.ListN.{length, get_or, set, take, drop, replicate, length-set, length-append, length-drop, length-map}
+use lib.Seq.{drop-set-lt, drop-append-le, drop-append-add, drop-drop, drop_at, drop-length, take_at}
 use lib.Ieee.{Float}
 use Rattle.floats.specs.Binary64 as B
 use Rattle.segments.specs.declared.PlineVertex.{PlineVertex}
@@ -13,7 +14,7 @@ use Rattle.source.specs.Source.{vertices_of, columns_of, Lent, rows, columns, ve
 use Rattle.source.proofs.Source.{length-vertices, length-columns, row_within, column_within}
 use Rattle.moves.specs.Drawing.{Drawing}
 use Rattle.sheet.specs.Buffers.{flat, xs_of, ys_of, bulges_of, padded, laid_in, shown}
-use Rattle.sheet.specs.InnerSteps.{Loans, Loaned, lent, SameLoans, beyond, Held, held_by, Contents, held, fitting, making, blank, showing, put_at, bulging, bulge_at}
+use Rattle.sheet.specs.InnerSteps.{Loans, Loaned, lent, SameLoans, beyond, Held, held_by, Contents, held, fitting, making, blank, showing, put_at, bulging, bulge_at, over, over_at}
 use Rattle.sheet.specs.declared.lent.Marks.{Marks}
 use Rattle.sheet.proofs.Flat.{flat_append, length-flat}
 
@@ -191,6 +192,60 @@ columns-drop (suc k) (x ∷ xs) (y ∷ ys) [] = none (drop k xs) (drop k ys)
     none (s ∷ ss) (t ∷ ts) = refl
 columns-drop (suc k) (x ∷ xs) (y ∷ ys) (b ∷ bs) = columns-drop k xs ys bs
 
+-- ---- a source copied list by list
+
+module _ {A : Type 0} where
+  -- past what was written over a list it is the same
+  past : (p o : List A) (n m : ℕ) → length p ≡ n → n ≤ m → drop m (p ++ drop n o) ≡ drop m o
+  past p o n m e h =
+      let i : m ≡ length p + (m - n) = omega arith in
+      let j : n + (m - n) ≡ m = omega arith in
+      ap (λ (k : ℕ). drop k (p ++ drop n o)) i ∙ drop-append-add p (drop n o) (m - n) ∙ drop-drop (m - n) n o ∙ ap (λ (k : ℕ). drop k o) j
+
+  -- what is written over a list, by its front
+  over-front : (s o p : List A) (n : ℕ) → take n s ≡ p → length p ≡ n → over (take n s) o ≡ p ++ drop n o
+  over-front s o p n e l = rw (e, l)
+
+length_over : (vs ws : List PlineVertex) → length vs ≤ length ws → length (over vs ws) ≡ length ws
+length_over vs ws h = omega (arith, length-append vs (drop (length vs) ws), length-drop (length vs) ws)
+
+pub copied-rows : (ns o : List Float) (l : Loans) → length (vertices_of ns) ≤ length (held_by (record { numbers = rows o; loans = l })).made
+    → held_by (record { numbers = rows (over (take (3 * length (vertices_of ns)) ns) o); loans = l }) ≡ over_at (vertices_of ns) (held_by (record { numbers = rows o; loans = l }))
+unfolding held_by
+copied-rows ns o l h =
+    let vs = vertices_of ns in
+    let n = 3 * length vs in
+    let front : take n ns ≡ flat vs = ap (take n) (sym (row-split ns)) ∙ take_at (flat vs) (drop n ns) n (length-flat vs) in
+    let made : vertices_of (flat vs ++ drop n o) ≡ over vs (vertices_of o) = flat-made vs (drop n o) ∙ rw (rows_drop (length vs) o) in
+    rw (over-front ns o (flat vs) n front (length-flat vs), made, length_over vs (vertices_of o) h, past (flat vs) o n (3 * length (vertices_of o)) (length-flat vs) (omega arith))
+
+-- one of three columns
+column_front : (f : PlineVertex → Float) (vs : List PlineVertex) (s r : List Float) → map f vs ++ r ≡ s → (take (length vs) s ≡ map f vs) × (length (map f vs) ≡ length vs)
+column_front f vs s r e = (ap (take (length vs)) (sym e) ∙ take_at (map f vs) r (length vs) (length-map vs f), length-map vs f)
+
+pub copied-columns : (xs ys bs ox oy ob : List Float) (l : Loans) → length (columns_of xs ys bs) ≤ length (held_by (record { numbers = columns ox oy ob; loans = l })).made
+    → let n = length (columns_of xs ys bs) in
+    held_by (record { numbers = columns (over (take n xs) ox) (over (take n ys) oy) (over (take n bs) ob); loans = l }) ≡ over_at (columns_of xs ys bs) (held_by (record { numbers = columns ox oy ob; loans = l }))
+unfolding held_by
+copied-columns xs ys bs ox oy ob l h =
+    let vs = columns_of xs ys bs in
+    let n = length vs in
+    let s = columns-split xs ys bs in
+    let a = column_front (λ (v : PlineVertex). v.x) vs xs (drop n xs) s.x in
+    let b = column_front (λ (v : PlineVertex). v.y) vs ys (drop n ys) s.y in
+    let c = column_front (λ (v : PlineVertex). v.bulge) vs bs (drop n bs) s.bulge in
+    let made : columns_of (xs_of vs ++ drop n ox) (ys_of vs ++ drop n oy) (bulges_of vs ++ drop n ob) ≡ over vs (columns_of ox oy ob) = columns-made vs (drop n ox) (drop n oy) (drop n ob) ∙ rw (columns-drop n ox oy ob) in
+    rw (
+      over-front xs ox (xs_of vs) n a.0 a.1,
+      over-front ys oy (ys_of vs) n b.0 b.1,
+      over-front bs ob (bulges_of vs) n c.0 c.1,
+      made,
+      length_over vs (columns_of ox oy ob) h,
+      past (xs_of vs) ox n (length (columns_of ox oy ob)) a.1 h,
+      past (ys_of vs) oy n (length (columns_of ox oy ob)) b.1 h,
+      past (bulges_of vs) ob n (length (columns_of ox oy ob)) c.1 h,
+    )
+
 -- ---- a drawing in the first places
 
 -- the numbers that hold so
@@ -210,6 +265,23 @@ joined-numbers (columns xs ys bs) = let s = columns-split xs ys bs in rw (s.x, s
 joined-held : (l : Loaned) → joined (held_by l) ≡ l.numbers
 unfolding held_by
 joined-held l = joined-numbers l.numbers
+
+-- what is held tells what is lent
+held_tells : (a b : Loaned) → held_by a ≡ held_by b → a ≡ b
+held_tells a b e =
+    let n : a.numbers ≡ b.numbers = sym (joined-held a) ∙ ap joined e ∙ joined-held b in
+    let m : a.loans ≡ b.loans = unfold held_by in ap (λ (h : Held). h.loans) e in
+    rw (n, m)
+
+-- the other way: numbers that hold a copy are the copy, list by list
+pub rows-copied : (ns o : List Float) (l : Loaned) (k : Loans) → length (vertices_of ns) ≤ length (held_by (record { numbers = rows o; loans = k })).made
+    → held_by l ≡ over_at (vertices_of ns) (held_by (record { numbers = rows o; loans = k })) → l ≡ record { numbers = rows (over (take (3 * length (vertices_of ns)) ns) o); loans = k }
+rows-copied ns o l k h e = held_tells l _ (e ∙ sym (copied-rows ns o k h))
+
+pub columns-copied : (xs ys bs ox oy ob : List Float) (l : Loaned) (k : Loans) → length (columns_of xs ys bs) ≤ length (held_by (record { numbers = columns ox oy ob; loans = k })).made
+    → held_by l ≡ over_at (columns_of xs ys bs) (held_by (record { numbers = columns ox oy ob; loans = k }))
+    → let n = length (columns_of xs ys bs) in l ≡ record { numbers = columns (over (take n xs) ox) (over (take n ys) oy) (over (take n bs) ob); loans = k }
+columns-copied xs ys bs ox oy ob l k h e = held_tells l _ (e ∙ sym (copied-columns xs ys bs ox oy ob k h))
 
 flat-blank : (n : ℕ) → flat (replicate n blank) ≡ replicate (3 * n) B.zero
 unfolding flat
@@ -252,6 +324,19 @@ padded-numbers room vs (columns xs ys bs) fits =
     let b = column_padded room vs (columns_of xs ys bs) fits (λ (v : PlineVertex). v.y) refl (drop n ys) in
     let c = column_padded room vs (columns_of xs ys bs) fits (λ (v : PlineVertex). v.bulge) refl (drop n bs) in
     rw (a, b, c, s.x, s.y, s.bulge)
+
+-- of any vertices and numbers beyond, in columns or not
+abbrev joined_in : Bool → Held → Lent
+joined_in true h = columns (xs_of h.made ++ get_or h.beyond 0 []) (ys_of h.made ++ get_or h.beyond 1 []) (bulges_of h.made ++ get_or h.beyond 2 [])
+joined_in false h = rows (flat h.made ++ get_or h.beyond 0 [])
+
+joined-padded : (c : Bool) (room : ℕ) (vs : List PlineVertex) (h : Held) → room ≤ length h.made → joined_in c (making (padded blank room vs h.made) h) ≡ laid_in room vs (joined_in c h)
+joined-padded true room vs h fits =
+    let a = column_padded room vs h.made fits (λ (v : PlineVertex). v.x) refl (get_or h.beyond 0 []) in
+    let b = column_padded room vs h.made fits (λ (v : PlineVertex). v.y) refl (get_or h.beyond 1 []) in
+    let c = column_padded room vs h.made fits (λ (v : PlineVertex). v.bulge) refl (get_or h.beyond 2 []) in
+    rw (a, b, c)
+joined-padded false room vs h fits = ap rows (row-padded room vs h.made fits (get_or h.beyond 0 []))
 
 pub lent-shown : (l l' : Loaned) (room : ℕ) (vs : List PlineVertex) → room ≤ length (held_by l).made
     → held_by l' ≡ making (padded blank room vs (held_by l).made) (held_by l) → l'.numbers ≡ laid_in room vs l.numbers

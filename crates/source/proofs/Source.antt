@@ -14,8 +14,8 @@ use lib.Seq.{drop-cons}
 use lib.Ieee.{Float, nan}
 use Rattle.floats.proofs.Choice.{both_pass}
 use Rattle.segments.specs.declared.PlineVertex.{PlineVertex}
-use Rattle.source.specs.Source.{vertices_of, columns_of, Lent, rows, columns, Whole, is_whole}
-use Rattle.source.specs.InnerSteps.{vertex_of}
+use Rattle.source.specs.Source.{vertices_of, columns_of, Lent, rows, columns, vertices_in, Whole, is_whole}
+use Rattle.source.specs.InnerSteps.{lent_by, count_by, whole_by, vertex_of}
 
 -- ---- how many there are
 
@@ -44,6 +44,16 @@ columns_most xs ys bs =
     let q = min-le_right (length xs) (length ys) in
     let r = min-le_right (min (length xs) (length ys)) (length bs) in
     (omega arith, omega arith, omega arith)
+
+-- the lengths of the lists tell how many, in either layout
+pub count-is : (c : Bool) (xs ys bs : List Float) → length (vertices_in (lent_by c xs ys bs)) ≡ count_by c (length xs) (length ys) (length bs)
+count-is true xs ys bs = length-columns xs ys bs
+count-is false xs ys bs = length-vertices xs
+
+-- and whether a number is left over
+pub whole_is : (c : Bool) (xs ys bs : List Float) → is_whole (lent_by c xs ys bs) ≡ whole_by c (length xs) (length ys) (length bs)
+whole_is true xs ys bs = refl
+whole_is false xs ys bs = refl
 
 -- ---- which one stands at a place
 
