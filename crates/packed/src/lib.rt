@@ -5,5 +5,5 @@
 mod text;
 mod unpacked;
 
-pub use text::{Text, mark_of};
+pub use text::{Text, mark_of, put_answer, put_origins, put_refusal, put_told};
 pub use unpacked::{Form, PackedJob, decode};

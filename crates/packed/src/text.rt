@@ -1,9 +1,10 @@
 // The text of an answer, as it is written into a lent buffer.
-ghost use Rattle.std.specs.Prelude.{◌≡◌, [], ◌∷◌, ◌++◌, not, ◌+◌, ◌*◌, ◌≤◌, eqb, length, take};
+ghost use Rattle.std.specs.Prelude.{◌≡◌, [], ◌∷◌, ◌++◌, not, ◌+◌, ◌*◌, ◌≤◌, eqb, length, take, drop};
+ghost use Rattle.io.specs.Counts.{IsPrefixLen};
 ghost use Rattle.floats.specs.Choice.{◌and◌};
 ghost use Rattle.moves.specs.Origins.{origins_in};
 ghost use Rattle.refusals.specs.Table.{number_of, place_of};
-ghost use Rattle.packed.specs.Text.{◌then◌, decimal_of, hex_of, line_end, row_of, mark_of, lines_of, word_of, head_of, refusal_of, printed, printed_of, origin_line, origin_lines, origins_text, three_of, pair_of};
+ghost use Rattle.packed.specs.Text.{◌then◌, decimal_of, hex_of, line_end, row_of, mark_of, lines_of, word_of, head_of, refusal_of, printed, printed_of, origin_line, origin_lines, origins_text, three_of, pair_of, told_of};
 ghost use Rattle.packed.specs.Writes.{HasRoom, Writes};
 
 use moves::Origin;
@@ -96,6 +97,28 @@ impl<'a> Text<'a> {
     {
         self.hex(a, b' ');
         self.hex(b, b'\n');
+    }
+
+    // What is told of an output segment: seven numbers, and two parameters by their bits.
+    fn told(
+        &mut self,
+        number: u32,
+        place: u32,
+        connector: u32,
+        source: u32,
+        reason: u32,
+        start_rule: u32,
+        end_rule: u32,
+        start_param: f64,
+        end_param: f64,
+    )
+        requires { HasRoom 181 self.old }
+        ensures { Writes (told_of number place connector source reason start_rule end_rule start_param end_param) self.old self.new }
+    {
+        self.three(number, place, connector);
+        self.three(source, reason, start_rule);
+        self.decimal(end_rule as u64, b' ');
+        self.pair(start_param, end_param);
     }
 
     // An answer: a line for the count and the closed mark, and a line for each vertex. Nothing is written where there
@@ -200,6 +223,77 @@ impl<'a> Text<'a> {
             }
         }
     }
+}
+
+// A refusal as a whole text, at a buffer's start, which has room for any. Answers its length.
+pub fn put_refusal(number: u32, place: u32, out: &mut [u8; 98304]) -> usize
+    ensures prefix_len { IsPrefixLen result out.new }
+    ensures value { result ≡ length (refusal_of number place) }
+    ensures out_after { out.new ≡ refusal_of number place ++ drop result out.old }
+{
+    let mut text = Text::new(out);
+    text.refusal(number, place);
+    text.len()
+}
+
+// The same of what is told of an output segment: seven numbers, and two parameters by their bits.
+pub fn put_told(
+    number: u32,
+    place: u32,
+    connector: u32,
+    source: u32,
+    reason: u32,
+    start_rule: u32,
+    end_rule: u32,
+    start_param: f64,
+    end_param: f64,
+    out: &mut [u8; 98304],
+) -> usize
+    ensures prefix_len { IsPrefixLen result out.new }
+    ensures value { result ≡ length (told_of number place connector source reason start_rule end_rule start_param end_param) }
+    ensures out_after { out.new ≡ told_of number place connector source reason start_rule end_rule start_param end_param ++ drop result out.old }
+{
+    let mut text = Text::new(out);
+    text.told(
+        number,
+        place,
+        connector,
+        source,
+        reason,
+        start_rule,
+        end_rule,
+        start_param,
+        end_param,
+    );
+    text.len()
+}
+
+// The same of an answer.
+pub fn put_answer(
+    count: usize,
+    closed: bool,
+    vertices: &[f64; 4608],
+    flags: &[u8; 1536],
+    out: &mut [u8; 98304],
+) -> usize
+    ensures prefix_len { IsPrefixLen result out.new }
+    ensures value { result ≡ length (printed_of count closed vertices.now flags.now) }
+    ensures out_after { out.new ≡ printed_of count closed vertices.now flags.now ++ drop result out.old }
+{
+    let mut text = Text::new(out);
+    text.answer(count, closed, vertices, flags);
+    text.len()
+}
+
+// The same of the origins of the output segments.
+pub fn put_origins(count: usize, origins: &[u32; 1536], out: &mut [u8; 98304]) -> usize
+    ensures prefix_len { IsPrefixLen result out.new }
+    ensures value { result ≡ length (printed count (origins_text count (origins_in origins.now))) }
+    ensures out_after { out.new ≡ printed count (origins_text count (origins_in origins.now)) ++ drop result out.old }
+{
+    let mut text = Text::new(out);
+    text.origins(count, origins);
+    text.len()
 }
 
 // No segment leaves the last vertex of an open answer.
