@@ -9,3 +9,4 @@ pub mod Bad
 pub mod NumberRow
 pub mod RepeatedRow
 pub mod Samples
+pub mod Both

@@ -1,9 +1,6 @@
 -- `refusals::good_point` meets its contract. Assumes nothing.
-use Rattle.floats.proofs.Same.{choices}
+use Rattle.refusals.proofs.Both.{both}
 use Rattle.refusals.proofs.good_point.Goals as goal
 
-pub returns-then-good_number : goal.returns-then-good_number
-returns-then-good_number c = search choices
-
-pub returns-else-good_number : goal.returns-else-good_number
-returns-else-good_number c = search choices
+pub returns : goal.returns
+returns c = both _ _ c.good_number.ensures c.good_number-2.ensures

@@ -1,12 +1,8 @@
 -- `refusals::good_vertex` meets its contract. Assumes nothing.
-use Rattle.floats.proofs.Same.{choices}
 use Rattle.refusals.specs.Limits.{good_vertex}
+use Rattle.refusals.proofs.Both.{both}
 use Rattle.refusals.proofs.good_vertex.Goals as goal
 
-pub returns-then-good_point : goal.returns-then-good_point
+pub returns : goal.returns
 unfolding good_vertex
-returns-then-good_point c = search choices
-
-pub returns-else-good_point : goal.returns-else-good_point
-unfolding good_vertex
-returns-else-good_point c = search choices
+returns c = both _ _ c.good_point.ensures c.good_number.ensures
