@@ -24,23 +24,32 @@ pub fits : (n numbers fields : ℕ) → has_room n numbers fields ≡ true → (
 unfolding has_room
 fits n numbers fields h = let both = (both_pass _ _).0 h in (leb-true n numbers both.0, leb-true n fields both.1)
 
--- what a check of an output tells, by its two tests
-abbrev pub check_by : Bool → Bool → Result (Unit {0}) Refusal
-check_by even many = when not even give Err Ragged else when many give Err TooMany else Ok tt
+-- what the two tests of an output tell
+abbrev pub even_by : Bool → Result (Unit {0}) Refusal
+even_by even = when not even give Err Ragged else Ok tt
 
-abbrev pub checked : Output → Result (Unit {0}) Refusal
-checked o = check_by (is_even o) (is_many o.numbers)
+abbrev pub few_by : Bool → Result (Unit {0}) Refusal
+few_by many = when many give Err TooMany else Ok tt
 
--- one that passes has so few vertices
-pub few_checked : (o : Output) → Ok tt ≡ checked o → length (points_of o) ≤ 12288
+pub even_passed : (t : Bool) → Ok tt ≡ even_by t → t ≡ true
 unfolding when◌give◌else◌
-few_checked o h = few o.numbers (by (is_even o) (is_many o.numbers) h)
-  where
-    by : (p q : Bool) → Ok tt ≡ check_by p q → q ≡ false
-    by true true e = cc
-    by true false e = refl
-    by false true e = cc
-    by false false e = refl
+even_passed true e = refl
+even_passed false e = cc
+
+pub even_failed : (t : Bool) {r : Refusal} → Err r ≡ even_by t → (t ≡ false) × (r ≡ Ragged)
+unfolding when◌give◌else◌
+even_failed true e = cc
+even_failed false e = (refl, cc)
+
+pub few_passed : (t : Bool) → Ok tt ≡ few_by t → t ≡ false
+unfolding when◌give◌else◌
+few_passed true e = cc
+few_passed false e = refl
+
+pub few_failed : (t : Bool) {r : Refusal} → Err r ≡ few_by t → (t ≡ true) × (r ≡ TooMany)
+unfolding when◌give◌else◌
+few_failed true e = (refl, cc)
+few_failed false e = cc
 
 module _ (a b : Output) where
   -- the list up to as many vertices as both have, counted by their numbers
@@ -63,34 +72,6 @@ module _ (a b : Output) where
         no _ _ _ (ap not fits) (rw (e, p, q, r, s, is))
 
     -- ---- the order of the tests
-
-    -- after a check of one output, what follows
-    abbrev pub after : Result (Unit {0}) Refusal → Outcome → Outcome
-    after (Ok u) next = next
-    after (Err r) next = outcome (Err r) numbers fields
-
-    pub by-checks : after (checked a) (after (checked b) (listing a b numbers fields)) ≡ compare_of a b numbers fields
-    unfolding compare_of when◌give◌else◌
-    by-checks = by (is_even a) (is_many a.numbers) (is_even b) (is_many b.numbers)
-      where
-        by : (p q r s : Bool) → after (check_by p q) (after (check_by r s) (listing a b numbers fields)) ≡
-            (when not p give outcome (Err Ragged) numbers fields else when q give outcome (Err TooMany) numbers fields else
-            when not r give outcome (Err Ragged) numbers fields else when s give outcome (Err TooMany) numbers fields else listing a b numbers fields)
-        by false q r s = refl
-        by true true r s = refl
-        by true false false s = refl
-        by true false true true = refl
-        by true false true false = refl
-
-    pub first-fails : {r : Refusal} → Err r ≡ checked a → outcome (Err r) numbers fields ≡ compare_of a b numbers fields
-    first-fails e = ap (λ k. after k (after (checked b) (listing a b numbers fields))) e ∙ by-checks
-
-    module _ (first : Ok tt ≡ checked a) where
-      pub second-fails : {r : Refusal} → Err r ≡ checked b → outcome (Err r) numbers fields ≡ compare_of a b numbers fields
-      second-fails e = ap (λ k. after (Ok tt) (after k (listing a b numbers fields))) e ∙ ap (λ k. after k (after (checked b) (listing a b numbers fields))) first ∙ by-checks
-
-      pub both-pass : Ok tt ≡ checked b → {o : Outcome} → o ≡ listing a b numbers fields → o ≡ compare_of a b numbers fields
-      both-pass e is = is ∙ ap (λ k. after (Ok tt) (after k (listing a b numbers fields))) e ∙ ap (λ k. after k (after (checked b) (listing a b numbers fields))) first ∙ by-checks
 
     pub ragged-first : is_even a ≡ false → outcome (Err Ragged) numbers fields ≡ compare_of a b numbers fields
     unfolding compare_of

@@ -118,13 +118,20 @@ impl<'a> Output<'a> {
         self.vertices() > MOST_VERTICES
     }
 
-    // Whether it can be compared.
-    fn check(&self) -> Result<(), Refusal>
-        ensures { result ≡ (when not (is_even self.now) give Err Refusal.Ragged else when is_many self.now.numbers give Err Refusal.TooMany else Ok tt) }
+    // The first test of an output: three numbers a vertex, and a flag for each segment.
+    fn check_even(&self) -> Result<(), Refusal>
+        ensures { result ≡ (when not (is_even self.now) give Err Refusal.Ragged else Ok tt) }
     {
         if !self.is_even() {
             return Err(Refusal::Ragged);
         }
+        Ok(())
+    }
+
+    // The second.
+    fn check_few(&self) -> Result<(), Refusal>
+        ensures { result ≡ (when is_many self.now.numbers give Err Refusal.TooMany else Ok tt) }
+    {
         if self.is_many() {
             return Err(Refusal::TooMany);
         }
@@ -232,7 +239,9 @@ pub fn compare(
 ) -> Result<Differences, Refusal>
     ensures { outcome result numbers.new fields.new ≡ compare_of a.now b.now numbers.old fields.old }
 {
-    a.check()?;
-    b.check()?;
+    a.check_even()?;
+    a.check_few()?;
+    b.check_even()?;
+    b.check_few()?;
     list(a, b, numbers, fields)
 }
